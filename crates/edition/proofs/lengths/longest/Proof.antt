@@ -1,0 +1,24 @@
+-- `edition::lengths::longest` meets its contract. Assumes nothing.
+use mathlib.Core.Path.{refl}
+use native.Mathlib.Omega.{arith}
+use Rattle.edition.specs.Sets.{longestOf}
+use borrow.Author.Needs.{needs}
+use Rattle.edition.proofs.lengths.longest.Statement.{statement}
+use Rattle.edition.proofs.lengths.longest.Tie as tie
+
+sub-result : tie.Need-sub-result
+sub-result c = search needs
+
+cast-result : tie.Need-cast-result
+cast-result c = search needs
+
+returns : tie.Need-returns
+unfolding longestOf
+returns c = refl
+
+returns-2 : tie.Need-returns-2
+unfolding longestOf
+returns-2 c = omega arith
+
+pub longest-spec : {M : Type 1} → statement M
+longest-spec = tie.close (tie.spec sub-result cast-result returns returns-2)

@@ -1,0 +1,6 @@
+-- The definitions that the contracts of `edition` cite.
+pub mod Lists
+pub mod Sets
+pub mod Values
+pub mod Rows
+pub mod Tables

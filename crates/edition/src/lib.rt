@@ -1,0 +1,277 @@
+// An edition: what each of the seventeen rows asks of its object, in card order.
+mod lengths;
+mod values;
+
+pub use lengths::longest;
+pub use lengths::permits;
+pub use lengths::shortest;
+pub use values::Verdict;
+pub use values::judge;
+ghost use mathlib.Core.Path.{_≡_};
+ghost use Rattle.edition.specs.Rows.{byRule, rowFormed, formedFrom, told};
+ghost use Rattle.edition.specs.Tables.{terminal, issue};
+
+pub enum Rule {
+    Digits,
+    Text,
+    Lead,
+    Code,
+    Birth,
+    Expiry,
+    Raw,
+}
+
+// The bit n of lengths is set where the length n is permitted.
+pub struct Row {
+    pub required: bool,
+    pub rule: Rule,
+    pub lengths: u32,
+}
+
+pub struct Edition {
+    pub rows: [Row; 17],
+}
+
+// Whether an edition is well formed, or the number of its first row that is not.
+pub enum Formed {
+    Well,
+    Bad(usize),
+}
+
+const FROM_1_TO_3: u32 = (1 << 4) - (1 << 1);
+
+const FROM_1_TO_15: u32 = (1 << 16) - (1 << 1);
+
+const FROM_1_TO_28: u32 = (1 << 29) - (1 << 1);
+
+const FROM_2_TO_15: u32 = (1 << 16) - (1 << 2);
+
+const FROM_2_TO_22: u32 = (1 << 23) - (1 << 2);
+
+const FROM_2_TO_23: u32 = (1 << 24) - (1 << 2);
+
+const FROM_2_TO_28: u32 = (1 << 29) - (1 << 2);
+
+const FROM_4_TO_7: u32 = (1 << 8) - (1 << 4);
+
+const FROM_6_TO_12: u32 = (1 << 13) - (1 << 6);
+
+// The rows that both shipped editions share.
+const FUND_NAME: Row = Row {
+    required: true,
+    rule: Rule::Text,
+    lengths: FROM_2_TO_28,
+};
+
+const FUND_NUMBER: Row = Row {
+    required: true,
+    rule: Rule::Digits,
+    lengths: 1 << 7,
+};
+
+const INSURED_NUMBER: Row = Row {
+    required: true,
+    rule: Rule::Digits,
+    lengths: FROM_6_TO_12,
+};
+
+const TITLE: Row = Row {
+    required: false,
+    rule: Rule::Text,
+    lengths: FROM_2_TO_15,
+};
+
+const NAME_PREFIX: Row = Row {
+    required: false,
+    rule: Rule::Text,
+    lengths: FROM_1_TO_15,
+};
+
+const FAMILY_NAME: Row = Row {
+    required: true,
+    rule: Rule::Text,
+    lengths: FROM_2_TO_28,
+};
+
+const BIRTH_DATE: Row = Row {
+    required: true,
+    rule: Rule::Birth,
+    lengths: 1 << 8,
+};
+
+const STREET: Row = Row {
+    required: false,
+    rule: Rule::Text,
+    lengths: FROM_2_TO_28,
+};
+
+const COUNTRY: Row = Row {
+    required: false,
+    rule: Rule::Text,
+    lengths: FROM_1_TO_3,
+};
+
+const POSTAL_CODE: Row = Row {
+    required: true,
+    rule: Rule::Text,
+    lengths: FROM_4_TO_7,
+};
+
+const CHECKSUM: Row = Row {
+    required: true,
+    rule: Rule::Raw,
+    lengths: 1 << 1,
+};
+
+impl Edition {
+    pub const TERMINAL: Edition = Edition {
+        rows: [
+            FUND_NAME,
+            FUND_NUMBER,
+            Row {
+                required: false,
+                rule: Rule::Digits,
+                lengths: 1 << 5,
+            },
+            INSURED_NUMBER,
+            Row {
+                required: true,
+                rule: Rule::Digits,
+                lengths: 1 << 1 | 1 << 4,
+            },
+            Row {
+                required: false,
+                rule: Rule::Text,
+                lengths: FROM_1_TO_3,
+            },
+            TITLE,
+            Row {
+                required: false,
+                rule: Rule::Text,
+                lengths: FROM_1_TO_28,
+            },
+            NAME_PREFIX,
+            FAMILY_NAME,
+            BIRTH_DATE,
+            STREET,
+            COUNTRY,
+            POSTAL_CODE,
+            Row {
+                required: true,
+                rule: Rule::Text,
+                lengths: FROM_2_TO_23,
+            },
+            Row {
+                required: false,
+                rule: Rule::Expiry,
+                lengths: 1 << 4,
+            },
+            CHECKSUM,
+        ],
+    };
+
+    pub const ISSUE: Edition = Edition {
+        rows: [
+            FUND_NAME,
+            FUND_NUMBER,
+            Row {
+                required: true,
+                rule: Rule::Digits,
+                lengths: 1 << 5,
+            },
+            INSURED_NUMBER,
+            Row {
+                required: true,
+                rule: Rule::Lead,
+                lengths: 1 << 4,
+            },
+            Row {
+                required: true,
+                rule: Rule::Code,
+                lengths: 1 << 1,
+            },
+            TITLE,
+            Row {
+                required: true,
+                rule: Rule::Text,
+                lengths: FROM_1_TO_28,
+            },
+            NAME_PREFIX,
+            FAMILY_NAME,
+            BIRTH_DATE,
+            STREET,
+            COUNTRY,
+            POSTAL_CODE,
+            Row {
+                required: true,
+                rule: Rule::Text,
+                lengths: FROM_2_TO_22,
+            },
+            Row {
+                required: true,
+                rule: Rule::Expiry,
+                lengths: 1 << 4,
+            },
+            CHECKSUM,
+        ],
+    };
+
+    pub fn terminal() -> Edition
+        ensures { λ r. ⌜ r ≡ terminal ⌝ }
+    {
+        Edition::TERMINAL
+    }
+
+    pub fn issue() -> Edition
+        ensures { λ r. ⌜ r ≡ issue ⌝ }
+    {
+        Edition::ISSUE
+    }
+
+    // Whether the edition is well formed, or its first bad row in card order.
+    pub fn formed(self) -> Formed
+        ensures { λ r. ⌜ told r ≡ told (formedFrom 0 (self .rows)) ⌝ }
+    {
+        let mut i: usize = 0;
+        while i < 17 {
+            let row = self.rows[i];
+            if !row_formed(row, i == 16) {
+                return Formed::Bad(i);
+            }
+            i += 1;
+        }
+        Formed::Well
+    }
+}
+
+// Of four tests, the one that a rule asks for.
+fn by_rule(rule: Rule, plain: bool, birth: bool, expiry: bool, raw: bool) -> bool
+    ensures { λ r. ⌜ r ≡ byRule rule plain birth expiry raw ⌝ }
+{
+    match rule {
+        Rule::Digits => plain,
+        Rule::Text => plain,
+        Rule::Lead => plain,
+        Rule::Code => plain,
+        Rule::Birth => birth,
+        Rule::Expiry => expiry,
+        Rule::Raw => raw,
+    }
+}
+
+// Whether a row is well formed; last says that it is the row of the checksum.
+fn row_formed(row: Row, last: bool) -> bool
+    ensures { λ r. ⌜ r ≡ rowFormed last row ⌝ }
+{
+    let lengths = row.lengths;
+    let rule = row.rule;
+    let within = (0 < lengths) & (lengths % 2 == 0) & (lengths < 1 << 29);
+    within
+        & by_rule(
+            rule,
+            !last,
+            !last & (lengths == 1 << 8),
+            !last & (lengths == 1 << 4),
+            last & row.required & (lengths == 1 << 1),
+        )
+}

@@ -1,0 +1,170 @@
+// What a rule asks of a value.
+use crate::Rule;
+ghost use mathlib.Core.Path.{_≡_};
+ghost use lib.ListN.{getD};
+ghost use Rattle.edition.specs.Lists.{leading};
+ghost use Rattle.edition.specs.Values.{isDigit, isText, byClass, takes, isLead, isCode, two, isBirth, isExpiry, bySense, holds, judged, told};
+
+// How a value stands to its rule.
+pub enum Verdict {
+    Takes,
+    // The index of the first byte outside the rule's characters.
+    Outside(usize),
+    // The characters are right; the lead, the code, the birth or the expiry is not.
+    Breaks,
+}
+
+fn is_digit(b: u8) -> bool
+    ensures { λ r. ⌜ r ≡ isDigit b ⌝ }
+{
+    (b >= 0x30) & (b <= 0x39)
+}
+
+// The 79 byte values of a text, by ranges.
+fn is_text(b: u8) -> bool
+    ensures { λ r. ⌜ r ≡ isText b ⌝ }
+{
+    (b == 0x20)
+        | ((b >= 0x26) & (b <= 0x29))
+        | (b == 0x2B)
+        | ((b >= 0x2D) & (b <= 0x39))
+        | ((b >= 0x41) & (b <= 0x5D))
+        | (b == 0x5F)
+        | ((b >= 0x61) & (b <= 0x7E))
+}
+
+// Whether a byte is of a rule's characters, by whether it is a digit and whether it is text.
+fn by_class(rule: Rule, digit: bool, text: bool) -> bool
+    ensures { λ r. ⌜ r ≡ byClass rule digit text ⌝ }
+{
+    match rule {
+        Rule::Digits => digit,
+        Rule::Text => text,
+        Rule::Lead => digit,
+        Rule::Code => text,
+        Rule::Birth => digit,
+        Rule::Expiry => digit,
+        Rule::Raw => true,
+    }
+}
+
+fn takes_byte(rule: Rule, b: u8) -> bool
+    ensures { λ r. ⌜ r ≡ takes rule b ⌝ }
+{
+    by_class(rule, is_digit(b), is_text(b))
+}
+
+fn is_lead(b: u8) -> bool
+    ensures { λ r. ⌜ r ≡ isLead b ⌝ }
+{
+    (b == b'1') | (b == b'3') | (b == b'5')
+}
+
+fn is_code(b: u8) -> bool
+    ensures { λ r. ⌜ r ≡ isCode b ⌝ }
+{
+    (b == b'1')
+        | (b == b'9')
+        | (b == b'4')
+        | (b == b'6')
+        | (b == b'7')
+        | (b == b'8')
+        | (b == b'M')
+        | (b == b'X')
+        | (b == b'A')
+        | (b == b'C')
+        | (b == b'K')
+        | (b == b'L')
+        | (b == b'E')
+        | (b == b'N')
+        | (b == b'D')
+        | (b == b'F')
+        | (b == b'S')
+        | (b == b'P')
+}
+
+// The number that two digits write.
+fn two_of(tens: u8, ones: u8) -> u32
+    ensures { λ r. ⌜ r ≡ two tens ones ⌝ }
+{
+    let x = (tens as u32) * 10 + ones as u32;
+    if x < 528 { 0 } else { x - 528 }
+}
+
+fn is_birth(length: usize, day: u32, month: u32) -> bool
+    ensures { λ r. ⌜ r ≡ isBirth length day month ⌝ }
+{
+    (length == 8) & (month <= 12) & (day <= 31) & ((month != 0) | (day == 0))
+}
+
+fn is_expiry(length: usize, month: u32) -> bool
+    ensures { λ r. ⌜ r ≡ isExpiry length month ⌝ }
+{
+    (length == 4) & (month >= 1) & (month <= 12)
+}
+
+// What a rule asks beyond its characters, of a value that is a lead, a code, a birth date, an expiry or not.
+fn by_sense(rule: Rule, lead: bool, code: bool, birth: bool, expiry: bool) -> bool
+    ensures { λ r. ⌜ r ≡ bySense rule lead code birth expiry ⌝ }
+{
+    match rule {
+        Rule::Digits => true,
+        Rule::Text => true,
+        Rule::Lead => lead,
+        Rule::Code => code,
+        Rule::Birth => birth,
+        Rule::Expiry => expiry,
+        Rule::Raw => true,
+    }
+}
+
+// The byte at i, and 0 past the end.
+fn byte_at(v: &[u8], i: usize) -> u8
+    ensures { λ r. ⌜ r ≡ getD (now (v .entry)) i 0 ⌝ }
+{
+    if i < v.len() { v[i] } else { 0 }
+}
+
+fn holds_for(rule: Rule, v: &[u8]) -> bool
+    ensures { λ r. ⌜ r ≡ holds rule (now (v .entry)) ⌝ }
+{
+    let first = byte_at(v, 0);
+    let leading = two_of(first, byte_at(v, 1));
+    let next = two_of(byte_at(v, 2), byte_at(v, 3));
+    by_sense(
+        rule,
+        is_lead(first),
+        is_code(first),
+        is_birth(v.len(), leading, next),
+        is_expiry(v.len(), leading),
+    )
+}
+
+// How many bytes at the head of a value are of the rule's characters.
+fn count_taken(rule: Rule, v: &[u8]) -> usize
+    ensures { λ r. ⌜ r ≡ leading (takes rule) (now (v .entry)) ⌝ }
+{
+    let mut i: usize = 0;
+    while i < v.len() {
+        if !takes_byte(rule, v[i]) {
+            return i;
+        }
+        i += 1;
+    }
+    i
+}
+
+// Whether a rule takes a value, or what is wrong with it.
+pub fn judge(rule: Rule, v: &[u8]) -> Verdict
+    ensures { λ r. ⌜ told r ≡ told (judged rule (now (v .entry))) ⌝ }
+{
+    let n = count_taken(rule, v);
+    if n < v.len() {
+        return Verdict::Outside(n);
+    }
+    if holds_for(rule, v) {
+        Verdict::Takes
+    } else {
+        Verdict::Breaks
+    }
+}

@@ -1,0 +1,116 @@
+/* Written from document 01 alone, without a look at the library. */
+#include "cases.h"
+
+#include <string.h>
+
+#include "casefile.h"
+#include "chance.h"
+
+struct edition terminal, issue, wide;
+
+const struct edition *turn(size_t count)
+{
+    return count % 2 == 0 ? &terminal : &issue;
+}
+
+static void start_case(struct test_case *test_case, uint8_t kind, const struct edition *edition)
+{
+    test_case->kind = kind;
+    test_case->selector = edition->selector;
+    memcpy(test_case->table, edition->table, TABLE_SIZE);
+}
+
+void emit_image(const struct edition *edition, const uint8_t *image, size_t length)
+{
+    static struct test_case test_case;
+
+    start_case(&test_case, 'R', edition);
+    test_case.length = length;
+    memcpy(test_case.image, image, length);
+    put_case(stdout, &test_case);
+}
+
+void emit_draft(const struct edition *edition, const struct draft *draft)
+{
+    emit_image(edition, draft->image, IMAGE_SIZE);
+}
+
+void emit_write(const struct edition *edition, const uint8_t *record, size_t buffer_length)
+{
+    static const uint8_t fills[4] = {0x00, 0xA5, 0xFF, 0x20};
+    static struct test_case test_case;
+
+    start_case(&test_case, 'W', edition);
+    test_case.length = buffer_length;
+    test_case.fill = fills[chance(4)];
+    memcpy(test_case.record, record, RECORD_SIZE);
+    put_case(stdout, &test_case);
+}
+
+void emit_record(const struct edition *edition, const uint8_t *record)
+{
+    emit_write(edition, record, IMAGE_SIZE);
+}
+
+void emit_card(const struct edition *edition, const uint8_t *record)
+{
+    struct draft draft;
+
+    draft_card(&draft, record);
+    emit_draft(edition, &draft);
+}
+
+void emit_both(const struct edition *edition, const uint8_t *record)
+{
+    emit_card(edition, record);
+    emit_record(edition, record);
+}
+
+void emit_damaged(const struct edition *edition, const struct draft *draft, size_t address, uint8_t byte)
+{
+    struct draft damaged = *draft;
+
+    damaged.image[address] = byte;
+    if (address != damaged.checksum_at)
+        draft_mend(&damaged);
+    emit_draft(edition, &damaged);
+}
+
+void record_around(uint8_t *record, size_t row)
+{
+    record_full(record);
+    if (row == ROW_85) {
+        set_absent(record, ROW_84);
+        set_absent(record, ROW_86);
+    }
+    if (row == ROW_8C) {
+        set_absent(record, ROW_8A);
+        set_text(record, ROW_8B, "1234");
+    }
+}
+
+static void set_up_editions(void)
+{
+    static const struct rule_row any_text = {0, RULE_TEXT, UINT32_C(0x1FFFFFFE)};
+    static const struct rule_row checksum = {1, RULE_RAW, 2};
+    size_t row;
+
+    terminal.selector = EDITION_TERMINAL;
+    second_edition(EDITION_TERMINAL, terminal.table, TABLE_SIZE);
+    issue.selector = EDITION_ISSUE;
+    second_edition(EDITION_ISSUE, issue.table, TABLE_SIZE);
+    wide.selector = 0;
+    for (row = 0; row < OBJECT_COUNT; row++)
+        row_to_table(wide.table, row, any_text);
+    row_to_table(wide.table, ROW_8E, checksum);
+}
+
+void write_corpus(uint64_t seed)
+{
+    chance_seed(seed);
+    set_up_editions();
+    reading_cases();
+    writing_cases();
+    shared_cases();
+    edition_cases();
+}

@@ -1,0 +1,39 @@
+/* The corpus of cases. */
+#ifndef SECOND_CASES_H
+#define SECOND_CASES_H
+
+#include "draft.h"
+
+struct edition {
+    uint8_t selector;
+    uint8_t table[TABLE_SIZE];
+};
+
+/* Wide: each row but 8E optional, text, 1 to 28. */
+extern struct edition terminal, issue, wide;
+
+/* Terminal or issue in turn. */
+const struct edition *turn(size_t count);
+
+void emit_image(const struct edition *edition, const uint8_t *image, size_t length);
+void emit_draft(const struct edition *edition, const struct draft *draft);
+void emit_write(const struct edition *edition, const uint8_t *record, size_t buffer_length);
+void emit_record(const struct edition *edition, const uint8_t *record);
+/* The record's card to read. */
+void emit_card(const struct edition *edition, const uint8_t *record);
+void emit_both(const struct edition *edition, const uint8_t *record);
+
+/* One byte changed, the checksum set right again. */
+void emit_damaged(const struct edition *edition, const struct draft *draft, size_t address, uint8_t byte);
+
+/* A record for both editions in which the row may have any of its lengths. */
+void record_around(uint8_t *record, size_t row);
+
+void reading_cases(void);
+void writing_cases(void);
+void shared_cases(void);
+void edition_cases(void);
+
+void write_corpus(uint64_t seed);
+
+#endif
