@@ -76,7 +76,8 @@ static void template_length_bytes(void)
 {
     static const uint8_t tags[] = {0x00, 0x61, 0x20, 0xE0, 0xC0, 0x80};
     static const uint8_t ones[] = {
-        0, 1, 45, 51, 68, 69, 70, 71, 72, 73, 74, 93, 100, 126, 127, 0x80, 0x81, 0x82, 0x83, 0x84, 0x88, 0xC6, 0xD4, 0xFF
+        0, 1, 45, 51, 68, 69, 70, 71, 72, 73, 74, 93, 100, 126, 127, 0x80, 0x81, 0x82, 0x83, 0x84, 0x88, 0xC6,
+        0xD4, 0xFF
     };
     static const uint8_t twos[] = {0, 1, 0x45, 0x46, 0x7E, 0x7F, 0x80, 0x81, 0x83, 0x84, 0x85, 0xD3, 0xD4, 0xD5, 0xFF};
     uint8_t record[RECORD_SIZE];
@@ -119,14 +120,17 @@ static void wrong_tags(void)
     static const uint8_t tags[] = {0x00, 0x7F, 0x91, 0x60, 0xC0, 0xFF};
     uint8_t record[RECORD_SIZE];
     struct draft draft;
-    size_t row;
+    size_t row, i;
 
     record_full(record);
     draft_card(&draft, record);
+    for (i = 0; i < COUNT(tags); i++) {
+        emit_damaged(turn(i), &draft, draft.tag_at[ROW_80], tags[i]);
+        emit_damaged(turn(i), &draft, draft.tag_at[ROW_8E], tags[i]);
+    }
     for (row = 0; row < ROW_COUNT; row++) {
         const struct edition *edition = turn(row);
         emit_damaged(edition, &draft, draft.tag_at[row], tags[row % COUNT(tags)]);
-        emit_damaged(edition, &draft, draft.tag_at[row], tags[(row / 2 + 3) % COUNT(tags)]);
         if (row > 0)
             emit_damaged(edition, &draft, draft.tag_at[row], second_tags[row - 1]);
         if (row < ROW_8E)
@@ -261,7 +265,7 @@ static void emit_length(const struct edition *edition, size_t row, size_t length
 
 static void every_length(void)
 {
-    static const uint8_t terminal_rows[] = {ROW_80, ROW_82, ROW_83, ROW_90, ROW_84, ROW_8C};
+    static const uint8_t terminal_rows[] = {ROW_80, ROW_83, ROW_84};
     static const uint8_t issue_rows[] = {ROW_83, ROW_90, ROW_8C};
     size_t i, length;
 
@@ -325,6 +329,7 @@ static int is_near_an_edge(unsigned byte)
 
 static void every_byte(void)
 {
+    static const uint8_t digit_rows[] = {ROW_82, ROW_88, ROW_8D};
     uint8_t record[RECORD_SIZE];
     struct draft draft;
     unsigned byte;
@@ -336,10 +341,8 @@ static void every_byte(void)
         emit_damaged(&issue, &draft, draft.tag_at[ROW_83] + 2, (uint8_t)byte);
         if (!is_near_an_edge(byte))
             continue;
-        emit_damaged(turn(byte), &draft, draft.tag_at[ROW_82] + 2 + byte % 9, (uint8_t)byte);
+        emit_damaged(turn(byte), &draft, draft.tag_at[digit_rows[byte % 3]] + 2 + byte % 4, (uint8_t)byte);
         emit_damaged(&issue, &draft, draft.tag_at[ROW_90] + 2, (uint8_t)byte);
-        emit_damaged(turn(byte), &draft, draft.tag_at[ROW_88] + 2 + byte % 8, (uint8_t)byte);
-        emit_damaged(turn(byte), &draft, draft.tag_at[ROW_8D] + 2 + byte % 4, (uint8_t)byte);
     }
 }
 
@@ -443,6 +446,17 @@ static void last_bytes(size_t length)
     }
 }
 
+/* The slip: from the first object on, without '60' and L. */
+static uint8_t sum_of_body(const struct draft *draft)
+{
+    uint8_t sum = 0;
+    size_t i;
+
+    for (i = draft->tag_at[ROW_80]; i < draft->checksum_at; i++)
+        sum ^= draft->image[i];
+    return sum;
+}
+
 static void checksums(void)
 {
     uint8_t record[RECORD_SIZE];
@@ -456,7 +470,7 @@ static void checksums(void)
         if (i < 8)
             draft.image[draft.checksum_at] ^= (uint8_t)(1u << i);
         else if (i < 12)
-            draft.image[draft.checksum_at] ^= (uint8_t)(0x60 ^ draft.image[31] ^ (draft.image[31] == 0x81 ? draft.image[32] : 0));
+            draft.image[draft.checksum_at] = sum_of_body(&draft);
         else if (i < 15)
             draft.image[draft.checksum_at] ^= 0x60;
         else
@@ -471,7 +485,8 @@ static void checksums(void)
 static void going_on(void)
 {
     static const uint8_t behind[][3] = {
-        {0x8D, 0x04, 0x30}, {0x8E, 0x01, 0x00}, {0x00, 0x00, 0x00}, {0x20, 0x20, 0x20}, {0x91, 0x01, 0x31}, {0xC0, 0x00, 0x00}
+        {0x8D, 0x04, 0x30}, {0x8E, 0x01, 0x00}, {0x00, 0x00, 0x00}, {0x20, 0x20, 0x20}, {0x91, 0x01, 0x31},
+        {0xC0, 0x00, 0x00}
     };
     uint8_t record[RECORD_SIZE];
     struct draft draft;
@@ -545,7 +560,7 @@ static void mutations(void)
     struct draft draft;
     size_t i;
 
-    for (i = 0; i < 260; i++) {
+    for (i = 0; i < 200; i++) {
         if (!chance_record(record, turn(i)->table))
             continue;
         draft_card(&draft, record);

@@ -97,8 +97,10 @@ void draft_rows(struct draft *draft, const uint8_t *record, size_t from, size_t 
 
     for (row = from; row < until && row < OBJECT_COUNT; row++) {
         const uint8_t *slot = slot_in(record, row);
-        if (slot[0] != 0)
-            draft_object(draft, row, slot + 1, slot[0]);
+        if (slot[0] == 0)
+            continue;
+        draft_object(draft, row, slot + 1, slot[0] < VALUE_MAX ? slot[0] : VALUE_MAX);
+        draft->body[draft->tag_at[row] + 1] = slot[0];
     }
 }
 

@@ -32,7 +32,8 @@ size_t template_length(const uint8_t *record);
 void draft_start(struct draft *draft);
 void draft_byte(struct draft *draft, uint8_t byte);
 void draft_object(struct draft *draft, size_t row, const uint8_t *value, size_t length);
-/* The record's objects of the rows from and before until. */
+/* The record's objects of the rows from and before until. One that claims more than 28 bytes
+   keeps its length byte and gets 28. */
 void draft_rows(struct draft *draft, const uint8_t *record, size_t from, size_t until);
 void draft_checksum(struct draft *draft);
 /* Lays out head, template, filler and last byte, with the checksum if one was put in. */

@@ -1,0 +1,4 @@
+-- The laws of the definitions.
+pub mod Xor
+pub mod Forms
+pub mod Groups

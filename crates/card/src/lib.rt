@@ -1,0 +1,75 @@
+// What a card is: the record, the refusal, and the pieces that reader and writer share.
+mod fields;
+mod sum;
+mod sums;
+
+pub use fields::LengthField;
+pub use fields::read_length;
+pub use sum::checksum;
+pub use sums::names_fit;
+pub use sums::town_fits;
+ghost use mathlib.Core.Path.{_≡_};
+ghost use Rattle.card.specs.Content.{emptyRecord};
+ghost use Rattle.card.specs.Refusals.{none};
+
+// An object's value is its first bytes up to the length; length 0 means absent.
+pub struct Object {
+    pub length: u8,
+    pub bytes: [u8; 28],
+}
+
+pub struct Record {
+    // Address 0.
+    pub first: u8,
+    // Addresses 6 to 16, then 29.
+    pub free: [u8; 12],
+    // Address 255.
+    pub last: u8,
+    // In card order, without the checksum.
+    pub objects: [Object; 16],
+}
+
+// Shortest and longest are the ends of the row's length set with number 7, else 0. All 0: no refusal.
+pub struct Refusal {
+    pub number: u8,
+    pub place: usize,
+    pub tag: u8,
+    pub shortest: u8,
+    pub longest: u8,
+}
+
+const ABSENT: Object = Object {
+    length: 0,
+    bytes: [0; 28],
+};
+
+impl Record {
+    pub const EMPTY: Record = Record {
+        first: 0,
+        free: [0; 12],
+        last: 0,
+        objects: [ABSENT; 16],
+    };
+
+    pub fn empty() -> Record
+        ensures { λ r. ⌜ r ≡ emptyRecord ⌝ }
+    {
+        Record::EMPTY
+    }
+}
+
+impl Refusal {
+    pub const NONE: Refusal = Refusal {
+        number: 0,
+        place: 0,
+        tag: 0,
+        shortest: 0,
+        longest: 0,
+    };
+
+    pub fn none() -> Refusal
+        ensures { λ r. ⌜ r ≡ none ⌝ }
+    {
+        Refusal::NONE
+    }
+}

@@ -1,0 +1,100 @@
+/* Written from document 01 alone, without a look at the library. */
+#include <stdio.h>
+#include <stdlib.h>
+#include <string.h>
+
+#include "card.h"
+#include "casefile.h"
+#include "cases.h"
+#include "list.h"
+#include "samples.h"
+
+static int list(void)
+{
+    uint8_t table[TABLE_SIZE];
+    uint8_t bytes[IMAGE_SIZE + 1];
+    size_t length = fread(bytes, 1, sizeof bytes, stdin);
+
+    second_edition(EDITION_TERMINAL, table, TABLE_SIZE);
+    list_image(stdout, table, bytes, length);
+    return 0;
+}
+
+static int batch(const char *name)
+{
+    uint8_t table[TABLE_SIZE];
+    uint8_t image[IMAGE_SIZE];
+    uint64_t which = strcmp(name, "terminal") == 0 ? EDITION_TERMINAL
+                   : strcmp(name, "issue") == 0 ? EDITION_ISSUE : 0;
+    uint64_t answer = second_edition(which, table, TABLE_SIZE);
+    size_t length;
+
+    if (answer != 0) {
+        list_refusal(stdout, answer);
+        return 0;
+    }
+    while ((length = fread(image, 1, IMAGE_SIZE, stdin)) > 0)
+        list_image(stdout, table, image, length);
+    return 0;
+}
+
+static int cases(const char *seed_text)
+{
+    char *end;
+    unsigned long long seed = strtoull(seed_text, &end, 10);
+
+    if (*seed_text == '\0' || *end != '\0') {
+        fputs("second: the seed is a number\n", stderr);
+        return 2;
+    }
+    write_corpus(seed);
+    return 0;
+}
+
+static int samples(const char *folder)
+{
+    if (write_samples(folder) == 0)
+        return 0;
+    fprintf(stderr, "second: cannot write the samples into %s\n", folder);
+    return 1;
+}
+
+static int usage(void)
+{
+    fputs("second list | batch [terminal|issue] | answer | cases SEED | tally | samples DIR\n", stderr);
+    return 2;
+}
+
+static int run(int count, char **words)
+{
+    const char *command = count > 1 ? words[1] : "";
+
+    if (strcmp(command, "list") == 0)
+        return list();
+    if (strcmp(command, "batch") == 0)
+        return batch(count > 2 ? words[2] : "terminal");
+    if (strcmp(command, "cases") == 0 && count == 3)
+        return cases(words[2]);
+    if (strcmp(command, "samples") == 0 && count == 3)
+        return samples(words[2]);
+    if (strcmp(command, "answer") == 0) {
+        answer_cases(stdin, stdout);
+        return 0;
+    }
+    if (strcmp(command, "tally") == 0) {
+        tally_cases(stdin, stdout);
+        return 0;
+    }
+    return usage();
+}
+
+int main(int count, char **words)
+{
+    int status = run(count, words);
+
+    if (fflush(stdout) != 0 || ferror(stdout)) {
+        fputs("second: cannot write\n", stderr);
+        return 1;
+    }
+    return status;
+}

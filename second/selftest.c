@@ -1,0 +1,425 @@
+/* Self tests: card S, both sides of each edge, and what must hold for every case of a file.
+   Written from document 01 alone, without a look at the library. */
+#include <stdio.h>
+#include <stdlib.h>
+#include <string.h>
+
+#include "casefile.h"
+#include "chance.h"
+#include "draft.h"
+
+#define COUNT(list) (sizeof(list) / sizeof((list)[0]))
+#define CHECK(condition) check((condition), #condition, __LINE__)
+
+static unsigned long checks, failures;
+static uint8_t terminal[TABLE_SIZE], issue[TABLE_SIZE];
+
+static void check(int holds, const char *what, int line)
+{
+    checks++;
+    if (!holds) {
+        failures++;
+        printf("selftest.c:%d: does not hold: %s\n", line, what);
+    }
+}
+
+static uint64_t told(unsigned number, unsigned place, unsigned tag)
+{
+    return number | (uint64_t)place << 8 | (uint64_t)tag << 16;
+}
+
+static uint64_t told_7(unsigned place, unsigned tag, unsigned shortest, unsigned longest)
+{
+    return told(7, place, tag) | (uint64_t)shortest << 24 | (uint64_t)longest << 32;
+}
+
+/* A copy of exactly this size, so that a look past its end is found. */
+static uint8_t *exact_copy(const uint8_t *bytes, size_t length)
+{
+    uint8_t *copy = malloc(length > 0 ? length : 1);
+
+    if (copy == NULL)
+        abort();
+    if (length > 0)
+        memcpy(copy, bytes, length);
+    return copy;
+}
+
+static int is_empty(const uint8_t *record)
+{
+    size_t i = 0;
+
+    while (i < RECORD_SIZE && record[i] == 0)
+        i++;
+    return i == RECORD_SIZE;
+}
+
+static uint64_t read_under(const uint8_t *table, const uint8_t *image, size_t length, uint8_t *record)
+{
+    uint8_t *own_table = exact_copy(table, TABLE_SIZE);
+    uint8_t *own_image = exact_copy(image, length);
+    uint8_t *room = exact_copy(record, RECORD_SIZE);
+    uint64_t answer;
+
+    memset(room, 0xA5, RECORD_SIZE);
+    answer = second_read(own_table, TABLE_SIZE, own_image, length, room, RECORD_SIZE);
+    memcpy(record, room, RECORD_SIZE);
+    if (answer != 0)
+        CHECK(is_empty(record));
+    free(own_table);
+    free(own_image);
+    free(room);
+    return answer;
+}
+
+static uint64_t write_under(const uint8_t *table, const uint8_t *record, uint8_t *image, size_t length)
+{
+    uint8_t *own_table = exact_copy(table, TABLE_SIZE);
+    uint8_t *own_record = exact_copy(record, RECORD_SIZE);
+    uint8_t *buffer = exact_copy(image, length);
+    uint64_t answer = second_write(own_table, TABLE_SIZE, own_record, RECORD_SIZE, buffer, length);
+
+    if (answer != 0)
+        CHECK(memcmp(buffer, image, length) == 0);
+    memcpy(image, buffer, length);
+    free(own_table);
+    free(own_record);
+    free(buffer);
+    return answer;
+}
+
+static uint64_t read_draft(const uint8_t *table, const struct draft *draft)
+{
+    uint8_t room[RECORD_SIZE] = {0};
+
+    return read_under(table, draft->image, IMAGE_SIZE, room);
+}
+
+static uint64_t read_card(const uint8_t *table, const uint8_t *record)
+{
+    struct draft draft;
+
+    draft_card(&draft, record);
+    return read_draft(table, &draft);
+}
+
+static uint64_t write_record(const uint8_t *table, const uint8_t *record)
+{
+    uint8_t image[IMAGE_SIZE] = {0};
+
+    return write_under(table, record, image, IMAGE_SIZE);
+}
+
+static void test_s(void)
+{
+    uint8_t record[RECORD_SIZE], image[IMAGE_SIZE] = {0}, back[RECORD_SIZE] = {0};
+    struct draft draft;
+
+    record_s(record);
+    draft_card(&draft, record);
+    CHECK(write_under(terminal, record, image, IMAGE_SIZE) == 0);
+    CHECK(memcmp(image, draft.image, IMAGE_SIZE) == 0);
+    CHECK(image[0] == 0x92 && image[30] == 0x60 && image[31] == 70);
+    CHECK(image[99] == 0x8E && image[100] == 1 && image[101] == 0xF1);
+    CHECK(image[102] == 0xC0 && image[103] == 0x81 && image[104] == 0x96);
+    CHECK(image[105] == 0x20 && image[254] == 0x20 && image[255] == 0x00);
+    CHECK(read_under(terminal, image, IMAGE_SIZE, back) == 0);
+    CHECK(memcmp(back, record, RECORD_SIZE) == 0);
+    CHECK(read_under(issue, image, IMAGE_SIZE, back) == told_7(61, 0x83, 4, 4));
+    CHECK(write_record(issue, record) == told_7(0, 0x83, 4, 4));
+    set_text(record, ROW_83, "1000");
+    CHECK(write_under(issue, record, image, IMAGE_SIZE) == 0);
+    CHECK(image[31] == 73 && image[104] == 0xCB);
+    CHECK(read_under(terminal, image, IMAGE_SIZE, back) == 0);
+    CHECK(read_under(issue, image, IMAGE_SIZE, back) == 0);
+}
+
+static void test_fillers(void)
+{
+    static const struct { uint8_t length, start, first, second, spaces_end; } layouts[] = {
+        {92, 124, 0x81, 0x80, 254}, {93, 125, 0x7F, 0x20, 253}, {94, 126, 0x7F, 0x20, 254},
+        {127, 159, 0x5E, 0x20, 254}, {128, 161, 0x5C, 0x20, 254}, {212, 245, 0x08, 0x20, 254}
+    };
+    uint8_t record[RECORD_SIZE], image[IMAGE_SIZE] = {0}, back[RECORD_SIZE] = {0};
+    size_t i;
+
+    for (i = 0; i < COUNT(layouts); i++) {
+        CHECK(chance_record_of(record, terminal, layouts[i].length));
+        CHECK(write_under(terminal, record, image, IMAGE_SIZE) == 0);
+        CHECK(image[layouts[i].start] == 0xC0 && image[layouts[i].start + 1] == layouts[i].first);
+        CHECK(image[layouts[i].start + 2] == layouts[i].second);
+        CHECK(image[layouts[i].spaces_end] == 0x20 && image[layouts[i].spaces_end + 1] == record[RECORD_LAST]);
+        CHECK(image[255] == record[RECORD_LAST]);
+        CHECK(read_under(terminal, image, IMAGE_SIZE, back) == 0);
+        CHECK(memcmp(back, record, RECORD_SIZE) == 0);
+    }
+}
+
+static void test_template_lengths(void)
+{
+    uint8_t record[RECORD_SIZE];
+
+    CHECK(chance_record_of(record, terminal, 69) && read_card(terminal, record) == told(4, 31, 0));
+    CHECK(write_record(terminal, record) == told(4, 0, 0));
+    CHECK(chance_record_of(record, terminal, 213) && read_card(terminal, record) == told(4, 32, 0));
+    CHECK(write_record(terminal, record) == told(4, 0, 0));
+    CHECK(chance_record_of(record, terminal, 51) && write_record(terminal, record) == told(4, 0, 0));
+    CHECK(!chance_record_of(record, terminal, 50));
+    CHECK(chance_record_of(record, terminal, 214) && slot_in(record, ROW_90)[0] == 3);
+    CHECK(!chance_record_of(record, terminal, 215));
+    CHECK(!chance_record_of(record, issue, 213));
+    CHECK(chance_record_of(record, issue, 212) && read_card(issue, record) == 0);
+}
+
+static void test_dates(void)
+{
+    static const struct { const char *value; unsigned number; } births[] = {
+        {"00000000", 0}, {"00051950", 0}, {"05001950", 10}, {"31022000", 0}, {"32011950", 10}, {"01131950", 10},
+        {"31121950", 0}, {"3213195A", 9}
+    };
+    static const struct { const char *value; unsigned number; } expiries[] = {
+        {"0125", 0}, {"1225", 0}, {"0025", 10}, {"1325", 10}, {"13A5", 9}
+    };
+    uint8_t record[RECORD_SIZE];
+    size_t i;
+
+    for (i = 0; i < COUNT(births); i++) {
+        record_full(record);
+        set_text(record, ROW_88, births[i].value);
+        CHECK((read_card(terminal, record) & 0xFF) == births[i].number);
+        CHECK((write_record(issue, record) & 0xFF) == births[i].number);
+    }
+    for (i = 0; i < COUNT(expiries); i++) {
+        record_full(record);
+        set_text(record, ROW_8D, expiries[i].value);
+        CHECK((read_card(issue, record) & 0xFF) == expiries[i].number);
+        CHECK((write_record(terminal, record) & 0xFF) == expiries[i].number);
+    }
+}
+
+static void test_towns_and_last_bytes(void)
+{
+    uint8_t record[RECORD_SIZE];
+
+    record_s(record);
+    set_text(record, ROW_83, "1000");
+    set_text(record, ROW_8C, "A town of twenty-three.");
+    CHECK(read_card(terminal, record) == 0 && write_record(terminal, record) == 0);
+    CHECK(read_card(issue, record) == told_7(93, 0x8C, 2, 22));
+    CHECK(write_record(issue, record) == told_7(0, 0x8C, 2, 22));
+    set_text(record, ROW_8B, "12345");
+    CHECK(write_record(terminal, record) == told(11, 0, 0x8B));
+    CHECK(read_card(terminal, record) == told(11, 86, 0x8B));
+    record_s(record);
+    record[RECORD_LAST] = 0xFF;
+    record[0] = 0x82;
+    CHECK(read_card(terminal, record) == 0 && write_record(terminal, record) == 0);
+    record[0] = 0xA2;
+    CHECK(read_card(terminal, record) == told(14, 255, 0) && write_record(terminal, record) == told(3, 0, 0));
+}
+
+static void test_last_bytes_at_93(void)
+{
+    static const struct { uint8_t first, at_254, at_255; unsigned place; } ends[] = {
+        {0x92, 0x00, 0x00, 0}, {0x82, 0xFF, 0xFF, 0}, {0x92, 0x55, 0x55, 255}, {0x92, 0x00, 0x55, 254},
+        {0x82, 0x00, 0xFF, 254}, {0x92, 0xFF, 0xFF, 255}, {0x92, 0x20, 0x00, 254}
+    };
+    uint8_t record[RECORD_SIZE];
+    struct draft draft;
+    size_t i;
+
+    CHECK(chance_record_of(record, terminal, 93));
+    draft_card(&draft, record);
+    for (i = 0; i < COUNT(ends); i++) {
+        draft.image[0] = ends[i].first;
+        draft.image[254] = ends[i].at_254;
+        draft.image[255] = ends[i].at_255;
+        CHECK(read_draft(terminal, &draft) == (ends[i].place == 0 ? 0 : told(14, ends[i].place, 0)));
+    }
+}
+
+static void test_slips(void)
+{
+    uint8_t record[RECORD_SIZE];
+    struct draft draft;
+    unsigned byte, taken = 0;
+
+    record_s(record);
+    draft_start(&draft);
+    draft.long_form = 1;
+    draft_rows(&draft, record, 0, OBJECT_COUNT);
+    draft_checksum(&draft);
+    draft_finish(&draft, record);
+    CHECK(draft.image[31] == 0x81 && draft.image[32] == 0x46);
+    CHECK(read_draft(terminal, &draft) == told(4, 32, 0));
+    draft_card(&draft, record);
+    draft.image[101] ^= 0x60 ^ 70;
+    CHECK(read_draft(terminal, &draft) == told(13, 101, 0));
+    for (byte = 0; byte < 256; byte++) {
+        slot_of(record, ROW_80)[1] = (uint8_t)byte;
+        taken += write_record(terminal, record) == 0;
+        CHECK(read_card(terminal, record) == (write_record(terminal, record) == 0 ? 0 : told(9, 34, 0x80)));
+    }
+    CHECK(taken == 79);
+    record_full(record);
+    set_text(record, ROW_83, "12");
+    CHECK(write_record(terminal, record) == told_7(0, 0x83, 1, 4));
+    set_text(record, ROW_83, "123");
+    CHECK(write_record(terminal, record) == told_7(0, 0x83, 1, 4));
+    set_text(record, ROW_83, "2A00");
+    CHECK(write_record(issue, record) == told(9, 1, 0x83));
+}
+
+static void test_sizes(void)
+{
+    uint8_t record[RECORD_SIZE + 1] = {0}, image[IMAGE_SIZE + 1] = {0}, before[RECORD_SIZE + 1];
+    uint8_t room[TABLE_SIZE + 1] = {0};
+    struct draft draft;
+
+    record_s(record);
+    draft_card(&draft, record);
+    memset(before, 0x77, sizeof before);
+    memcpy(image, draft.image, IMAGE_SIZE);
+    CHECK(second_read(terminal, TABLE_SIZE, image, IMAGE_SIZE, before, RECORD_SIZE - 1) == told(20, 0, 0));
+    CHECK(second_read(NULL, 0, NULL, 0, before, RECORD_SIZE + 1) == told(20, 0, 0));
+    CHECK(before[0] == 0x77 && before[RECORD_SIZE] == 0x77);
+    CHECK(second_read(NULL, 0, NULL, 0, before, RECORD_SIZE) == told(1, 0, 0) && is_empty(before));
+    CHECK(second_read(NULL, 0, image, IMAGE_SIZE, before, RECORD_SIZE) == told(2, 0, 0));
+    CHECK(second_read(terminal, TABLE_SIZE - 1, image, IMAGE_SIZE, before, RECORD_SIZE) == told(2, 0, 0));
+    CHECK(second_read(terminal, TABLE_SIZE, image, IMAGE_SIZE + 1, before, RECORD_SIZE) == told(1, 0, 0));
+    CHECK(second_write(terminal, TABLE_SIZE, record, RECORD_SIZE + 1, image, IMAGE_SIZE) == told(20, 0, 0));
+    CHECK(second_write(NULL, 0, record, RECORD_SIZE, image, IMAGE_SIZE + 1) == told(20, 0, 0));
+    CHECK(second_write(NULL, 0, record, RECORD_SIZE, image, IMAGE_SIZE) == told(2, 0, 0));
+    CHECK(second_edition(1, room, TABLE_SIZE + 1) == told(20, 0, 0) && second_edition(9, NULL, 0) == told(20, 0, 0));
+    CHECK(second_edition(0, room, TABLE_SIZE) == told(2, 0, 0));
+    CHECK(second_edition(UINT64_C(0x100000001), room, TABLE_SIZE) == told(2, 0, 0) && room[0] == 0);
+}
+
+static void test_bad_rows(void)
+{
+    uint8_t table[TABLE_SIZE], record[RECORD_SIZE];
+    size_t row;
+
+    record_full(record);
+    for (row = 0; row < ROW_COUNT; row++) {
+        memcpy(table, issue, TABLE_SIZE);
+        table[row * ROW_SIZE] = 2;
+        CHECK(read_card(table, record) == told(2, 0, second_tags[row]));
+        table[row * ROW_SIZE] = 1;
+        table[row * ROW_SIZE + 1] = 7;
+        CHECK(write_record(table, record) == told(2, 0, second_tags[row]));
+        table[row * ROW_SIZE + 1] = RULE_RAW;
+        CHECK((write_record(table, record) == 0) == (row == ROW_8E));
+        table[row * ROW_SIZE + 1] = issue[row * ROW_SIZE + 1];
+        table[row * ROW_SIZE + 2] |= 0x20;
+        if (row < ROW_8E)
+            table[row * ROW_SIZE + ROW_SIZE] = 9;
+        CHECK(read_card(table, record) == told(2, 0, second_tags[row]));
+    }
+}
+
+/* An accepted image is the layout of its record, and a written one is accepted with its record. */
+static void test_read_case(const struct test_case *test_case)
+{
+    uint8_t record[RECORD_SIZE] = {0}, image[IMAGE_SIZE] = {0};
+    struct draft draft;
+
+    if (read_under(test_case->table, test_case->image, test_case->length, record) != 0)
+        return;
+    draft_card(&draft, record);
+    CHECK(memcmp(draft.image, test_case->image, IMAGE_SIZE) == 0);
+    CHECK(write_under(test_case->table, record, image, IMAGE_SIZE) == 0);
+    CHECK(memcmp(image, test_case->image, IMAGE_SIZE) == 0);
+}
+
+static void test_write_case(const struct test_case *test_case)
+{
+    uint8_t record[RECORD_SIZE] = {0}, wiped[RECORD_SIZE], image[LENT_MAX];
+    uint64_t answer;
+    struct draft draft;
+    size_t row;
+
+    memset(image, test_case->fill, LENT_MAX);
+    answer = write_under(test_case->table, test_case->record, image, test_case->length);
+    draft_card(&draft, test_case->record);
+    if (answer != 0) {
+        CHECK(test_case->length != IMAGE_SIZE || read_draft(test_case->table, &draft) != 0);
+        return;
+    }
+    memcpy(wiped, test_case->record, RECORD_SIZE);
+    for (row = 0; row < OBJECT_COUNT; row++) {
+        uint8_t *slot = slot_of(wiped, row);
+        memset(slot + 1 + slot[0], 0, (size_t)VALUE_MAX - slot[0]);
+    }
+    CHECK(memcmp(draft.image, image, IMAGE_SIZE) == 0);
+    CHECK(read_under(test_case->table, image, IMAGE_SIZE, record) == 0);
+    CHECK(memcmp(record, wiped, RECORD_SIZE) == 0);
+}
+
+static void test_file(const char *path)
+{
+    static struct test_case test_case;
+    FILE *in = fopen(path, "rb");
+    unsigned long count = 0;
+    int got;
+
+    CHECK(in != NULL);
+    if (in == NULL)
+        return;
+    while ((got = get_case(in, &test_case)) == 1) {
+        count++;
+        if (test_case.kind == 'R')
+            test_read_case(&test_case);
+        else
+            test_write_case(&test_case);
+    }
+    fclose(in);
+    CHECK(got == 0 && count > 2000);
+}
+
+/* Under any edition, random bytes in a right card: accepted only if it is the layout of its record. */
+static void test_random_damage(void)
+{
+    static struct test_case test_case;
+    uint8_t record[RECORD_SIZE];
+    struct draft draft;
+    unsigned round;
+
+    test_case.length = IMAGE_SIZE;
+    for (round = 0; round < 20000; round++) {
+        if (round % 10 == 0)
+            chance_table(test_case.table);
+        if (round % 2 == 0)
+            memcpy(test_case.table, round % 4 == 0 ? terminal : issue, TABLE_SIZE);
+        if (!chance_record_of(record, test_case.table, 70 + chance(143)))
+            continue;
+        draft_card(&draft, record);
+        CHECK(read_draft(test_case.table, &draft) == 0);
+        draft.image[chance(IMAGE_SIZE)] = (uint8_t)chance(256);
+        if (chance(2))
+            draft_mend(&draft);
+        memcpy(test_case.image, draft.image, IMAGE_SIZE);
+        test_read_case(&test_case);
+    }
+}
+
+int main(int count, char **words)
+{
+    chance_seed(7);
+    CHECK(second_edition(EDITION_TERMINAL, terminal, TABLE_SIZE) == 0);
+    CHECK(second_edition(EDITION_ISSUE, issue, TABLE_SIZE) == 0);
+    test_s();
+    test_fillers();
+    test_template_lengths();
+    test_dates();
+    test_towns_and_last_bytes();
+    test_last_bytes_at_93();
+    test_slips();
+    test_sizes();
+    test_bad_rows();
+    test_random_damage();
+    for (int i = 1; i < count; i++)
+        test_file(words[i]);
+    printf("selftest: %lu checks, %lu failures\n", checks, failures);
+    return failures == 0 ? 0 : 1;
+}
