@@ -2,3 +2,4 @@
 pub mod Xor
 pub mod Forms
 pub mod Groups
+pub mod Records

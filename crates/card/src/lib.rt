@@ -1,16 +1,19 @@
 // What a card is: the record, the refusal, and the pieces that reader and writer share.
+mod ends;
 mod fields;
 mod sum;
 mod sums;
 
 pub use fields::LengthField;
+pub use ends::allows_first;
+pub use ends::allows_last;
 pub use fields::read_length;
 pub use sum::checksum;
 pub use sums::names_fit;
 pub use sums::town_fits;
 ghost use mathlib.Core.Path.{_≡_};
 ghost use Rattle.card.specs.Content.{emptyRecord};
-ghost use Rattle.card.specs.Refusals.{none};
+ghost use Rattle.card.specs.Refusals.{refuse, refuseLength, none};
 
 // An object's value is its first bytes up to the length; length 0 means absent.
 pub struct Object {
@@ -66,6 +69,31 @@ impl Refusal {
         shortest: 0,
         longest: 0,
     };
+
+    pub fn new(number: u8, place: usize, tag: u8) -> Refusal
+        ensures { λ r. ⌜ r ≡ refuse number place tag ⌝ }
+    {
+        Refusal {
+            number,
+            place,
+            tag,
+            shortest: 0,
+            longest: 0,
+        }
+    }
+
+    // Number 7, with the ends of the set.
+    pub fn of_length(place: usize, tag: u8, lengths: u32) -> Refusal
+        ensures { λ r. ⌜ r ≡ refuseLength place tag lengths ⌝ }
+    {
+        Refusal {
+            number: 7,
+            place,
+            tag,
+            shortest: edition::shortest(lengths),
+            longest: edition::longest(lengths),
+        }
+    }
 
     pub fn none() -> Refusal
         ensures { λ r. ⌜ r ≡ none ⌝ }

@@ -1,11 +1,14 @@
 -- The first bad row, one row after the other. Assumes nothing.
-use Prim.Native.Nat.{ℕ, suc, _+_, _<_}
+use Prim.Native.Nat.{ℕ, zero, suc, _+_, _/_, _%_, _^_, _≤_, _<_}
+use native.Mathlib.Nat.{add-zero, zero-add, add-suc, suc-add, le-of-suc-le-suc, not-suc-le-zero, lt-of-lt-of-le}
 use native.Mathlib.Numerals.{add-one}
 use native.Mathlib.Omega.{arith}
+use borrow.Author.Tests.{eqb-true, ltb-true, leb-true, leb-false, ne-eqb}
 use mathlib.Core.Path.{_≡_, refl, sym, ap, _∙_}
-use mathlib.Core.Bool.{Bool, true, false, cond}
+use mathlib.Core.Bool.{Bool, true, false, cond, _&&_}
 use mathlib.Core.List.{List, [], _∷_}
-use lib.Dec.{eqb}
+use lib.Dec.{eqb, leb, ltb}
+use lib.Pow.{pow-mono}
 use lib.ListN.{length, getD, drop}
 use lib.Seq.{drop-cons, drop-length}
 use Rattle.edition.specs.declared.Rule.the-variants.{Digits}
@@ -13,7 +16,10 @@ use Rattle.edition.specs.declared.Row.{Row}
 use Rattle.edition.specs.declared.Formed.{Formed}
 use Rattle.edition.specs.declared.Formed.the-variants.{Well, Bad}
 use Rattle.edition.specs.Lists.{among, distinct}
-use Rattle.edition.specs.Rows.{tags, rowFormed, formedFrom, Told, told}
+use Rattle.edition.specs.Sets.{permitted}
+use Rattle.edition.specs.Rows.{tags, setFormed, rowFormed, formedFrom, Told, told}
+use Rattle.edition.proofs.Lists.{true-false, and-left, and-right}
+use Rattle.edition.proofs.Sets.{beyond}
 
 -- the tags of the seventeen rows are distinct
 pub tags-distinct : distinct tags ≡ true
@@ -46,3 +52,50 @@ module _ (rs : List Row) (i : ℕ) where
   pub formed-end : i ≡ length rs → formedFrom i (drop i rs) ≡ Well
   unfolding formedFrom
   formed-end h = rw (h, drop-length)
+
+-- ---- the rows of a well-formed table
+formed-in : (q : Bool) (f : Formed) (k : ℕ) → cond q f (Bad k) ≡ Well → (q ≡ true) × (f ≡ Well)
+formed-in true f k e = (refl, e)
+formed-in false f k e = (cc, cc)
+
+pub formed-head : (k : ℕ) (r : Row) (rs : List Row) → formedFrom k (r ∷ rs) ≡ Well → (rowFormed (eqb k 16) r ≡ true) × (formedFrom (suc k) rs ≡ Well)
+unfolding formedFrom
+formed-head k r rs e = formed-in (rowFormed (eqb k 16) r) (formedFrom (suc k) rs) k e
+
+-- each row is well formed
+formed-from : (k : ℕ) (rs : List Row) (i : ℕ) → formedFrom k rs ≡ Well → i < length rs → rowFormed (eqb (k + i) 16) (getD rs i noRow) ≡ true
+formed-from k [] i e h = absurd (not-suc-le-zero h)
+formed-from k (r ∷ rs) zero e h = rw (add-zero k) (formed-head k r rs e .0)
+formed-from k (r ∷ rs) (suc i) e h = rw (add-suc k i, ← suc-add k i) (formed-from (suc k) rs i (formed-head k r rs e .1) (le-of-suc-le-suc h))
+
+pub formed-row : (rs : List Row) (i : ℕ) → formedFrom 0 rs ≡ Well → i < length rs → rowFormed (eqb i 16) (getD rs i noRow) ≡ true
+formed-row rs i e h = rw (zero-add i) at (formed-from 0 rs i e h)
+
+-- a well-formed set has not the length 0, and none past 28
+pub record Within28 (lengths : ℕ) : Type 0 where
+  pub some : 0 < lengths
+  pub even : lengths % 2 ≡ 0
+  pub small : lengths < 2 ^ 29
+
+pub set-within : (lengths : ℕ) → setFormed lengths ≡ true → Within28 lengths
+set-within lengths h =
+    let front = and-left (ltb 0 lengths && eqb (lengths % 2) 0) (ltb lengths (2 ^ 29)) h in
+    record {
+      some = ltb-true 0 lengths (and-left (ltb 0 lengths) (eqb (lengths % 2) 0) front);
+      even = eqb-true (lengths % 2) 0 (and-right (ltb 0 lengths) (eqb (lengths % 2) 0) front);
+      small = ltb-true lengths (2 ^ 29) (and-right (ltb 0 lengths && eqb (lengths % 2) 0) (ltb lengths (2 ^ 29)) h);
+    }
+
+pub row-within : (last : Bool) (r : Row) → rowFormed last r ≡ true → Within28 (r .lengths)
+row-within last r h = set-within (r .lengths) (and-left (setFormed (r .lengths)) _ h)
+
+pub permits-most : (lengths n : ℕ) → Within28 lengths → permitted lengths n ≡ true → n ≤ 28
+permits-most lengths n w p = go (leb n 28) refl
+  where
+    go : (q : Bool) → leb n 28 ≡ q → n ≤ 28
+    go true e = leb-true n 28 e
+    go false e = absurd (true-false p (beyond lengths n (lt-of-lt-of-le (w .small) (pow-mono (leb-false n 28 e)))))
+
+pub permits-not-0 : (lengths : ℕ) → Within28 lengths → permitted lengths 0 ≡ false
+unfolding permitted
+permits-not-0 lengths w = ne-eqb (lengths / 1 % 2) 1 (omega (arith, w .even))

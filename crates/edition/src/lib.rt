@@ -1,10 +1,12 @@
 // An edition: what each of the seventeen rows asks of its object, in card order.
 mod lengths;
+mod tags;
 mod values;
 
 pub use lengths::longest;
 pub use lengths::permits;
 pub use lengths::shortest;
+pub use tags::tag_of;
 pub use values::Verdict;
 pub use values::judge;
 ghost use mathlib.Core.Path.{_≡_};

@@ -1,0 +1,12 @@
+-- `card::ends::allows_first` meets its contract. Assumes nothing.
+use mathlib.Core.Path.{refl}
+use Rattle.card.specs.Rules.{firstAllowed}
+use Rattle.card.proofs.ends.allows_first.Statement.{statement}
+use Rattle.card.proofs.ends.allows_first.Tie as tie
+
+returns : tie.Need-returns
+unfolding firstAllowed
+returns c = refl
+
+pub allows-first-spec : {M : Type 1} → statement M
+allows-first-spec = tie.close (tie.spec returns)

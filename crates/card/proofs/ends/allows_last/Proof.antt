@@ -1,0 +1,12 @@
+-- `card::ends::allows_last` meets its contract. Assumes nothing.
+use mathlib.Core.Path.{refl}
+use Rattle.card.specs.Rules.{lastAllowed}
+use Rattle.card.proofs.ends.allows_last.Statement.{statement}
+use Rattle.card.proofs.ends.allows_last.Tie as tie
+
+returns : tie.Need-returns
+unfolding lastAllowed
+returns c = refl
+
+pub allows-last-spec : {M : Type 1} → statement M
+allows-last-spec = tie.close (tie.spec returns)
