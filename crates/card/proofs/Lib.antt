@@ -3,3 +3,5 @@ pub mod Xor
 pub mod Forms
 pub mod Groups
 pub mod Records
+pub mod Layouts
+pub mod Octets

@@ -60,3 +60,8 @@ pub xor-below : (l : List ℕ) → ((k : ℕ) → k < length l → getD l k 0 < 
 unfolding xorAll
 xor-below [] h = omega arith
 xor-below (x ∷ xs) h = xor-lt 8 x (xorAll xs) (h 0 (omega arith)) (xor-below xs (λ k j. h (suc k) (omega arith)))
+
+-- a run closed with its own exclusive or makes 0
+pub xor-closed : (xs : List ℕ) → xorAll (xs ++ (xorAll xs ∷ [])) ≡ 0
+unfolding xorAll
+xor-closed xs = xor-append xs (xorAll xs ∷ []) ∙ ap (bitXor (xorAll xs)) (xor-zero-r (xorAll xs)) ∙ xor-self (xorAll xs)

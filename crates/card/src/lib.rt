@@ -4,9 +4,9 @@ mod fields;
 mod sum;
 mod sums;
 
-pub use fields::LengthField;
 pub use ends::allows_first;
 pub use ends::allows_last;
+pub use fields::LengthField;
 pub use fields::read_length;
 pub use sum::checksum;
 pub use sums::names_fit;
