@@ -199,15 +199,30 @@ static void compare_editions(void)
 
 /* Cases */
 
-static uint8_t terminal[TABLE_SIZE], issue[TABLE_SIZE];
+/* Wide: each row but 8E optional, text, 1 to 28. */
+static uint8_t terminal[TABLE_SIZE], issue[TABLE_SIZE], wide[TABLE_SIZE];
 static struct stock stock[STOCK];
+
+static void make_tables(void)
+{
+    static const struct rule_row any_text = {0, RULE_TEXT, UINT32_C(0x1FFFFFFE)};
+    size_t row;
+
+    second_edition(EDITION_TERMINAL, terminal, TABLE_SIZE);
+    second_edition(EDITION_ISSUE, issue, TABLE_SIZE);
+    memcpy(wide, terminal, TABLE_SIZE);
+    for (row = 0; row < OBJECT_COUNT; row++)
+        row_to_table(wide, row, any_text);
+}
 
 static void choose_table(uint8_t *table)
 {
+    static const uint8_t *const known[] = {terminal, terminal, issue, issue, wide};
+
     if (chance(3) == 0)
         chance_table(table);
     else
-        memcpy(table, chance(2) ? terminal : issue, TABLE_SIZE);
+        memcpy(table, known[chance(sizeof known / sizeof known[0])], TABLE_SIZE);
 }
 
 static void renew(struct stock *entry)
@@ -225,8 +240,6 @@ static void fill_stock(void)
     static const uint8_t lengths[] = {68, 69, 70, 71, 92, 93, 94, 127, 128, 129, 211, 212, 213, 214, 73};
     size_t i;
 
-    second_edition(EDITION_TERMINAL, terminal, TABLE_SIZE);
-    second_edition(EDITION_ISSUE, issue, TABLE_SIZE);
     for (i = 0; i < STOCK; i++) {
         if (i >= EDGE_STOCK || !stock_up_at(&stock[i], i % 2 ? issue : terminal, lengths[i % sizeof lengths]))
             renew(&stock[i]);
@@ -350,6 +363,7 @@ static void compare_all(unsigned long count)
     unsigned long i;
 
     compare_editions();
+    make_tables();
     fill_stock();
     for (i = 0; i < count; i++) {
         if (i % 8 == 0)

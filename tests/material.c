@@ -141,7 +141,7 @@ static size_t other_length(size_t length)
     }
 }
 
-/* Puts in digits or text, whatever the rule. */
+/* Digits or text, whatever the rule. */
 static void put_simpler_value(uint8_t *slot)
 {
     size_t length = slot[0] < VALUE_MAX ? slot[0] : VALUE_MAX;
@@ -150,15 +150,29 @@ static void put_simpler_value(uint8_t *slot)
         chance_value(chance(4) ? RULE_DIGITS : RULE_TEXT, slot + 1, length);
 }
 
-/* Every object of it by itself is right, but perhaps not the sum. */
-static void fill_group(uint8_t *record, const uint8_t *table, size_t first)
+/* The first four digits of a date, a birth's or an expiry's, about the edges of days and months. */
+static void put_edge_date(uint8_t *slot)
 {
+    static const char *const numbers[] = {"00", "01", "09", "10", "12", "13", "30", "31", "32"};
+
+    memcpy(slot + 1, numbers[chance(COUNT(numbers))], 2);
+    memcpy(slot + 3, numbers[chance(COUNT(numbers))], 2);
+}
+
+/* One to three objects of the group, together at an edge of the sums or one beside it. */
+static void put_edge_sum(uint8_t *record, const uint8_t *table, size_t first)
+{
+    static const uint8_t sums[] = {15, 16, 26, 27, 28};
+    size_t last = first + chance(3);
+    size_t wanted = sums[chance(COUNT(sums))];
     size_t row;
 
     for (row = first; row < first + 3; row++) {
-        if (chance(3))
-            chance_fill(record, table, row, permitted_length(table, row));
+        size_t length = chance(2) && row != last ? permitted_length(table, row) : 0;
+        chance_fill(record, table, row, length);
+        wanted -= length < wanted ? length : 0;
     }
+    chance_fill(record, table, last, wanted);
 }
 
 void damage_record(uint8_t *record, const uint8_t *table)
@@ -166,7 +180,7 @@ void damage_record(uint8_t *record, const uint8_t *table)
     size_t row = chance(OBJECT_COUNT);
     uint8_t *slot = slot_of(record, row);
 
-    switch (chance(11)) {
+    switch (chance(12)) {
     case 0:
         slot[0] = (uint8_t)other_length(slot[0]);
         break;
@@ -191,7 +205,10 @@ void damage_record(uint8_t *record, const uint8_t *table)
         record[chance(2) ? 0 : RECORD_LAST] = telling_byte();
         break;
     case 9:
-        fill_group(record, table, chance(2) ? ROW_84 : ROW_8A);
+        put_edge_sum(record, table, chance(2) ? ROW_84 : ROW_8A);
+        break;
+    case 10:
+        put_edge_date(slot_of(record, chance(2) ? ROW_88 : ROW_8D));
         break;
     default:
         if (slot[0] < VALUE_MAX)

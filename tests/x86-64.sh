@@ -1,0 +1,46 @@
+# Sourced at the top of the repository. The library's archive is for x86-64: elsewhere programs are
+# built by a cross compiler, statically, and run under the emulator of the toolchain.
+
+mkdir -p target/c
+
+install_cross_compiler() {
+    echo "installing gcc-x86-64-linux-gnu" >&2
+    { apt-get update && apt-get install -y gcc-x86-64-linux-gnu libc6-dev-amd64-cross; } >target/c/install.log 2>&1 ||
+        { tail -n 20 target/c/install.log >&2; return 1; }
+}
+
+if [ "$(uname -m)" = x86_64 ]; then
+    compiler=${CC:-cc}
+    link=''
+    emulator=''
+else
+    compiler=x86_64-linux-gnu-gcc
+    link=-static
+    kit=$(dirname "$(dirname "$(rt doc)")")
+    emulator=$kit/on/$(uname -m)/toolchain/bin/qemu-x86_64
+    command -v $compiler >/dev/null || install_cross_compiler
+fi
+
+build_library() {
+    rt staticlib kvk >target/c/staticlib.log 2>&1 || { tail -n 20 target/c/staticlib.log >&2; return 1; }
+}
+
+# build PROGRAM SOURCE..: into target/c, with the library.
+build() {
+    program=$1
+    shift
+    "$compiler" -std=c99 -O2 -Wall -Wextra -Wpedantic -Wconversion -Wshadow -Werror -Iinclude -Isecond -Itests \
+        "$@" target/staticlib/libkvk.a $link -o "target/c/$program"
+}
+
+build_compare() {
+    build compare tests/compare.c tests/material.c \
+        second/card.c second/chance.c second/draft.c second/list.c
+}
+
+# run PROGRAM WORD..
+run() {
+    program=$1
+    shift
+    ${emulator:+"$emulator"} "target/c/$program" "$@"
+}
