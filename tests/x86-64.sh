@@ -1,3 +1,4 @@
+# shellcheck shell=sh
 # Sourced at the top of the repository. The library's archive is for x86-64: elsewhere programs are
 # built by a cross compiler, statically, and run under the emulator of the toolchain.
 
@@ -22,6 +23,7 @@ else
 fi
 
 build_library() {
+    echo "proving and building libkvk.a" >&2
     rt staticlib kvk >target/c/staticlib.log 2>&1 || { tail -n 20 target/c/staticlib.log >&2; return 1; }
 }
 

@@ -5,3 +5,4 @@ pub mod Groups
 pub mod Records
 pub mod Layouts
 pub mod Octets
+pub mod Room

@@ -126,7 +126,7 @@ value-octets r v f t =
 object-octets : (t : ℕ) (r : Row) (v : List ℕ) → t < 256 → rowFormed false r ≡ true → RowMet r v → Octets (object t v)
 object-octets t r [] h f m = no-octet
 object-octets t r (b ∷ v) h f m =
-    let short = permits-most (r .lengths) (suc (length v)) (row-within false r f) (m .0) in
+    let short = permits-most (r .lengths) (suc (length v)) (row-within false r f .small) (m .0) in
     octet h (octet {b = suc (length v)} (omega arith) (value-octets r (b ∷ v) f (m .1)))
 
 body-octets : (k : ℕ) (ts : List ℕ) (rs : List Row) (vs : List (List ℕ)) → k + length ts ≤ 16 → Octets ts → formedFrom k rs ≡ Well → AllMet (entries ts rs) vs → Octets (body ts vs)

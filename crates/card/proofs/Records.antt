@@ -24,7 +24,7 @@ pub data Short : List (List ℕ) → Type 0 where
 -- what a well-formed row is met by has at most 28 bytes
 row-short : (k : ℕ) (r : Row) (v : List ℕ) → rowFormed (eqb k 16) r ≡ true → RowMet r v → length v ≤ 28
 row-short k r [] f m = omega arith
-row-short k r (b ∷ v) f m = permits-most (r .lengths) (suc (length v)) (row-within (eqb k 16) r f) (m .0)
+row-short k r (b ∷ v) f m = permits-most (r .lengths) (suc (length v)) (row-within (eqb k 16) r f .small) (m .0)
 
 met-from : (k : ℕ) (ts : List ℕ) (rs : List Row) (vs : List (List ℕ)) → formedFrom k rs ≡ Well → AllMet (entries ts rs) vs → Short vs
 unfolding entries

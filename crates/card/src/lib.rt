@@ -1,6 +1,7 @@
 // What a card is: the record, the refusal, and the pieces that reader and writer share.
 mod ends;
 mod fields;
+mod filler;
 mod sum;
 mod sums;
 
@@ -8,6 +9,7 @@ pub use ends::allows_first;
 pub use ends::allows_last;
 pub use fields::LengthField;
 pub use fields::read_length;
+pub use filler::count_spaces;
 pub use sum::checksum;
 pub use sums::names_fit;
 pub use sums::town_fits;

@@ -11,13 +11,14 @@ use lib.Dec.{eqb, leb, ltb}
 use lib.Pow.{pow-mono}
 use lib.ListN.{length, getD, drop}
 use lib.Seq.{drop-cons, drop-length}
-use Rattle.edition.specs.declared.Rule.the-variants.{Digits}
+use Rattle.edition.specs.declared.Rule.{Rule}
+use Rattle.edition.specs.declared.Rule.the-variants.{Digits, Text, Lead, Code, Birth, Expiry, Raw}
 use Rattle.edition.specs.declared.Row.{Row}
 use Rattle.edition.specs.declared.Formed.{Formed}
 use Rattle.edition.specs.declared.Formed.the-variants.{Well, Bad}
 use Rattle.edition.specs.Lists.{among, distinct}
-use Rattle.edition.specs.Sets.{permitted}
-use Rattle.edition.specs.Rows.{tags, setFormed, rowFormed, formedFrom, Told, told}
+use Rattle.edition.specs.Sets.{permitted, only}
+use Rattle.edition.specs.Rows.{tags, noRow, setFormed, byRule, rowFormed, formedFrom, Told, told}
 use Rattle.edition.proofs.Lists.{true-false, and-left, and-right}
 use Rattle.edition.proofs.Sets.{beyond}
 
@@ -35,10 +36,6 @@ told-apart a b e = go a b (ap (λ (t : Told). t .number) e) (ap (λ (t : Told). 
     go Well (Bad k) n r = absurd (omega arith)
     go (Bad k) Well n r = absurd (omega arith)
     go (Bad k) (Bad j) n r = ap Bad r
-
--- what stands past the end of a list of rows
-abbrev pub noRow : Row
-noRow = record { required = false; rule = Digits; lengths = 0 }
 
 module _ (rs : List Row) (i : ℕ) where
   pub formed-pass : i < length rs → rowFormed (eqb i 16) (getD rs i noRow) ≡ true → formedFrom (i + 1) (drop (i + 1) rs) ≡ formedFrom i (drop i rs)
@@ -63,7 +60,7 @@ unfolding formedFrom
 formed-head k r rs e = formed-in (rowFormed (eqb k 16) r) (formedFrom (suc k) rs) k e
 
 -- each row is well formed
-formed-from : (k : ℕ) (rs : List Row) (i : ℕ) → formedFrom k rs ≡ Well → i < length rs → rowFormed (eqb (k + i) 16) (getD rs i noRow) ≡ true
+pub formed-from : (k : ℕ) (rs : List Row) (i : ℕ) → formedFrom k rs ≡ Well → i < length rs → rowFormed (eqb (k + i) 16) (getD rs i noRow) ≡ true
 formed-from k [] i e h = absurd (not-suc-le-zero h)
 formed-from k (r ∷ rs) zero e h = rw (add-zero k) (formed-head k r rs e .0)
 formed-from k (r ∷ rs) (suc i) e h = rw (add-suc k i, ← suc-add k i) (formed-from (suc k) rs i (formed-head k r rs e .1) (le-of-suc-le-suc h))
@@ -89,13 +86,41 @@ set-within lengths h =
 pub row-within : (last : Bool) (r : Row) → rowFormed last r ≡ true → Within28 (r .lengths)
 row-within last r h = set-within (r .lengths) (and-left (setFormed (r .lengths)) _ h)
 
-pub permits-most : (lengths n : ℕ) → Within28 lengths → permitted lengths n ≡ true → n ≤ 28
-permits-most lengths n w p = go (leb n 28) refl
+-- each row of a well-formed table has such a set
+pub formed-within : (rs : List Row) (i : ℕ) → formedFrom 0 rs ≡ Well → i < length rs → Within28 (getD rs i noRow .lengths)
+formed-within rs i e h = row-within (eqb i 16) (getD rs i noRow) (formed-row rs i e h)
+
+pub permits-most : (lengths n : ℕ) → lengths < 2 ^ 29 → permitted lengths n ≡ true → n ≤ 28
+permits-most lengths n small p = go (leb n 28) refl
   where
     go : (q : Bool) → leb n 28 ≡ q → n ≤ 28
     go true e = leb-true n 28 e
-    go false e = absurd (true-false p (beyond lengths n (lt-of-lt-of-le (w .small) (pow-mono (leb-false n 28 e)))))
+    go false e = absurd (true-false p (beyond lengths n (lt-of-lt-of-le small (pow-mono (leb-false n 28 e)))))
 
 pub permits-not-0 : (lengths : ℕ) → Within28 lengths → permitted lengths 0 ≡ false
 unfolding permitted
 permits-not-0 lengths w = ne-eqb (lengths / 1 % 2) 1 (omega (arith, w .even))
+
+-- the last row is required, raw, and has the set {1}
+last-by : (rule : Rule) (birth expiry raw : Bool) → byRule rule false (false && birth) (false && expiry) raw ≡ true → (rule ≡ Raw) × (raw ≡ true)
+last-by Digits b x r e = absurd (true-false e refl)
+last-by Text b x r e = absurd (true-false e refl)
+last-by Lead b x r e = absurd (true-false e refl)
+last-by Code b x r e = absurd (true-false e refl)
+last-by Birth b x r e = absurd (true-false e refl)
+last-by Expiry b x r e = absurd (true-false e refl)
+last-by Raw b x r e = (refl, e)
+
+pub record LastRow (r : Row) : Type 0 where
+  pub required : r .required ≡ true
+  pub rule : r .rule ≡ Raw
+  pub lengths : r .lengths ≡ only 1
+
+pub last-formed : (r : Row) → rowFormed true r ≡ true → LastRow r
+last-formed r e =
+    let raw = last-by (r .rule) (eqb (r .lengths) (only 8)) (eqb (r .lengths) (only 4)) (r .required && eqb (r .lengths) (only 1)) (and-right (setFormed (r .lengths)) _ e) in
+    record {
+      required = and-left (r .required) (eqb (r .lengths) (only 1)) (raw .1);
+      rule = raw .0;
+      lengths = eqb-true (r .lengths) (only 1) (and-right (r .required) (eqb (r .lengths) (only 1)) (raw .1));
+    }

@@ -18,6 +18,10 @@ tags = 0x80 ∷ 0x81 ∷ 0x8F ∷ 0x82 ∷ 0x83 ∷ 0x90 ∷ 0x84 ∷ 0x85 ∷ 0
 abbrev pub tagOf : ℕ → ℕ
 tagOf k = getD tags k 0
 
+-- what stands past the end of a list of rows
+abbrev pub noRow : Row
+noRow = record { required = false; rule = Digits; lengths = 0 }
+
 -- each set is non-empty and within 1 to 28
 abbrev pub setFormed : ℕ → Bool
 setFormed lengths = ltb 0 lengths && eqb (lengths % 2) 0 && ltb lengths (2 ^ 29)

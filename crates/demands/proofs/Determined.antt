@@ -1,0 +1,96 @@
+-- No second answer: two answers, and two buffers, that meet a public function's contract for one input are the same. Assumes nothing.
+use mathlib.Core.Path.{_≡_, sym, _∙_}
+use denote.Ref.{now}
+use Rattle.edition.proofs.Verdicts
+use Rattle.edition.proofs.Rows
+use Rattle.card.proofs.Forms
+use Rattle.edition.proofs.Edition.terminal.Reads as terminal
+use Rattle.edition.proofs.Edition.issue.Reads as issue
+use Rattle.edition.proofs.Edition.formed.Reads as formed
+use Rattle.edition.proofs.tag_of.Reads as tag-of
+use Rattle.edition.proofs.permits.Reads as permits
+use Rattle.edition.proofs.shortest.Reads as shortest
+use Rattle.edition.proofs.longest.Reads as longest
+use Rattle.edition.proofs.judge.Reads as judge
+use Rattle.card.proofs.Record.empty.Reads as empty
+use Rattle.card.proofs.Refusal.new.Reads as new
+use Rattle.card.proofs.Refusal.of_length.Reads as of-length
+use Rattle.card.proofs.Refusal.none.Reads as none
+use Rattle.card.proofs.allows_first.Reads as allows-first
+use Rattle.card.proofs.allows_last.Reads as allows-last
+use Rattle.card.proofs.count_spaces.Reads as count-spaces
+use Rattle.card.proofs.checksum.Reads as checksum
+use Rattle.card.proofs.read_length.Reads as read-length
+use Rattle.card.proofs.names_fit.Reads as names-fit
+use Rattle.card.proofs.town_fits.Reads as town-fits
+use Rattle.reader.proofs.read.Reads as read
+use Rattle.writer.proofs.write.Reads as write
+
+-- `Post` is what a contract ensures: of the lifetimes, the arguments, the answer, and what is lent back at exit
+pub terminal-once : (κs : _) (a : _) (z y : _) (e f : _) → terminal.Post κs a z e → terminal.Post κs a y f → z ≡ y
+terminal-once κs a z y e f p q = p ∙ sym q
+
+pub issue-once : (κs : _) (a : _) (z y : _) (e f : _) → issue.Post κs a z e → issue.Post κs a y f → z ≡ y
+issue-once κs a z y e f p q = p ∙ sym q
+
+pub tag-of-once : (κs : _) (a : _) (z y : _) (e f : _) → tag-of.Post κs a z e → tag-of.Post κs a y f → z ≡ y
+tag-of-once κs a z y e f p q = p ∙ sym q
+
+pub permits-once : (κs : _) (a : _) (z y : _) (e f : _) → permits.Post κs a z e → permits.Post κs a y f → z ≡ y
+permits-once κs a z y e f p q = p ∙ sym q
+
+pub shortest-once : (κs : _) (a : _) (z y : _) (e f : _) → shortest.Post κs a z e → shortest.Post κs a y f → z ≡ y
+shortest-once κs a z y e f p q = p ∙ sym q
+
+pub longest-once : (κs : _) (a : _) (z y : _) (e f : _) → longest.Post κs a z e → longest.Post κs a y f → z ≡ y
+longest-once κs a z y e f p q = p ∙ sym q
+
+pub empty-once : (κs : _) (a : _) (z y : _) (e f : _) → empty.Post κs a z e → empty.Post κs a y f → z ≡ y
+empty-once κs a z y e f p q = p ∙ sym q
+
+pub new-once : (κs : _) (a : _) (z y : _) (e f : _) → new.Post κs a z e → new.Post κs a y f → z ≡ y
+new-once κs a z y e f p q = p ∙ sym q
+
+pub of-length-once : (κs : _) (a : _) (z y : _) (e f : _) → of-length.Post κs a z e → of-length.Post κs a y f → z ≡ y
+of-length-once κs a z y e f p q = p ∙ sym q
+
+pub none-once : (κs : _) (a : _) (z y : _) (e f : _) → none.Post κs a z e → none.Post κs a y f → z ≡ y
+none-once κs a z y e f p q = p ∙ sym q
+
+pub allows-first-once : (κs : _) (a : _) (z y : _) (e f : _) → allows-first.Post κs a z e → allows-first.Post κs a y f → z ≡ y
+allows-first-once κs a z y e f p q = p ∙ sym q
+
+pub allows-last-once : (κs : _) (a : _) (z y : _) (e f : _) → allows-last.Post κs a z e → allows-last.Post κs a y f → z ≡ y
+allows-last-once κs a z y e f p q = p ∙ sym q
+
+pub count-spaces-once : (κs : _) (a : _) (z y : _) (e f : _) → count-spaces.Post κs a z e → count-spaces.Post κs a y f → z ≡ y
+count-spaces-once κs a z y e f p q = p ∙ sym q
+
+pub checksum-once : (κs : _) (a : _) (z y : _) (e f : _) → checksum.Post κs a z e → checksum.Post κs a y f → z ≡ y
+checksum-once κs a z y e f p q = p ∙ sym q
+
+pub names-fit-once : (κs : _) (a : _) (z y : _) (e f : _) → names-fit.Post κs a z e → names-fit.Post κs a y f → z ≡ y
+names-fit-once κs a z y e f p q = p ∙ sym q
+
+pub town-fits-once : (κs : _) (a : _) (z y : _) (e f : _) → town-fits.Post κs a z e → town-fits.Post κs a y f → z ≡ y
+town-fits-once κs a z y e f p q = p ∙ sym q
+
+pub read-once : (κs : _) (a : _) (z y : _) (e f : _) → read.Post κs a z e → read.Post κs a y f → z ≡ y
+read-once κs a z y e f p q = p ∙ sym q
+
+-- an enum that is told alike is the same
+pub formed-once : (κs : _) (a : _) (z y : _) (e f : _) → formed.Post κs a z e → formed.Post κs a y f → z ≡ y
+formed-once κs a z y e f p q = Rows.told-apart z y (p ∙ sym q)
+
+pub judge-once : (κs : _) (a : _) (z y : _) (e f : _) → judge.Post κs a z e → judge.Post κs a y f → z ≡ y
+judge-once κs a z y e f p q = Verdicts.told-apart z y (p ∙ sym q)
+
+pub read-length-once : (κs : _) (a : _) (z y : _) (e f : _) → read-length.Post κs a z e → read-length.Post κs a y f → z ≡ y
+read-length-once κs a z y e f p q = Forms.told-apart z y (p ∙ sym q)
+
+-- an answer and a buffer
+pub write-once : (κs : _) (a : _) (z y : _) (e f : _) → write.Post κs a z e → write.Post κs a y f → z ≡ y
+write-once κs a z y e f p q = p .0 ∙ sym (q .0)
+
+pub write-buffer-once : (κs : _) (a : _) (z y : _) (e f : _) → write.Post κs a z e → write.Post κs a y f → now (e .1 .1 .0) ≡ now (f .1 .1 .0)
+write-buffer-once κs a z y e f p q = p .1 ∙ sym (q .1)

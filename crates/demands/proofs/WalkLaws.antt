@@ -1,0 +1,224 @@
+-- The walk over the bytes that values make, and what the bytes of a walk are. Assumes nothing.
+use Prim.Native.Nat.{ℕ, suc, _+_, _≤_}
+use native.Mathlib.Omega.{arith}
+use native.Mathlib.Nat.{add-zero}
+use mathlib.Core.Path.{_≡_, refl, _∙_}
+use mathlib.Core.Bool.{Bool, true, false, cond, not, _&&_, or-true}
+use mathlib.Core.List.{List, [], _∷_, _++_, append-assoc}
+use lib.ListN.{length, take, drop, length-append, take-append-drop}
+use lib.Seq.{take-append-seam, drop-append-seam, length-take-le}
+use lib.Dec.{leb, eqb}
+use borrow.Author.Tests.{eqb-true, eq-eqb, ne-eqb, le-leb, leb-true, not-true}
+use Rattle.edition.specs.declared.Row.{Row}
+use Rattle.edition.specs.declared.values.Verdict.{Verdict}
+use Rattle.edition.specs.declared.values.Verdict.the-variants.{Takes, Outside, Breaks}
+use Rattle.edition.specs.Lists.{among, distinct}
+use Rattle.edition.specs.Sets.{permitted}
+use Rattle.edition.specs.Values.{judged}
+use Rattle.edition.proofs.Lists.{true-false, and-left, and-right}
+use Rattle.card.specs.declared.Refusal.{Refusal}
+use Rattle.card.specs.Refusals.{refuse, refuseLength}
+use Rattle.card.specs.Layout.{object, body}
+use Rattle.card.specs.Rules.{Entry, RowMet, AllMet, none-left, one-more, Fault, met, missing, length-out, byte-out, value-out, ofVerdict, fault}
+use Rattle.reader.specs.Walk.{Seen, absent, there, wrong, weighed, objectAt, passed, look, Walked, through, stopped, push, onward, tagsOf, walk}
+use Rattle.demands.specs.Nested.{refusalAt}
+
+-- ---- the values in card order: the walk stops at the first row that is not met
+unfoldable pub unlessMet : Entry → ℕ → Fault → Walked → Walked
+unlessMet r at met w = w
+unlessMet r at missing w = stopped (refusalAt r at missing)
+unlessMet r at length-out w = stopped (refusalAt r at length-out)
+unlessMet r at (byte-out i) w = stopped (refusalAt r at (byte-out i))
+unlessMet r at value-out w = stopped (refusalAt r at value-out)
+
+unfoldable pub appraise : List Entry → ℕ → List (List ℕ) → Walked
+appraise [] at vs = through [] []
+appraise (r ∷ rs) at [] = unlessMet r at (fault (r .row) []) (push [] (appraise rs at []))
+appraise (r ∷ rs) at (v ∷ vs) = unlessMet r at (fault (r .row) v) (push v (appraise rs (at + length (object (r .tag) v)) vs))
+
+-- ---- the bytes of a body begin with the tag of one of its rows
+data Heads (ts : List ℕ) : List ℕ → Type 0 where
+  nothing : Heads ts []
+  starts : {b : ℕ} {bs : List ℕ} → among b ts ≡ true → Heads ts (b ∷ bs)
+
+weaken : {ts : List ℕ} {bs : List ℕ} (t : ℕ) → Heads ts bs → Heads (t ∷ ts) bs
+unfolding among
+weaken t nothing = nothing
+weaken {ts} t (starts {b} m) = starts {b = b} (rw (m, or-true))
+
+heads : (ts : List ℕ) (vs : List (List ℕ)) → Heads ts (body ts vs)
+unfolding body among
+heads ts [] = nothing
+heads [] (v ∷ vs) = nothing
+heads (t ∷ ts) ([] ∷ vs) = weaken t (heads ts vs)
+heads (t ∷ ts) ((b ∷ v) ∷ vs) = starts {b = t} (rw (eq-eqb t t refl))
+
+look-later : (r : Entry) (ts : List ℕ) (at : ℕ) (bs : List ℕ) → Heads ts bs → among (r .tag) ts ≡ false → look r ts at bs ≡ passed r at true
+unfolding look
+look-later r ts at bs nothing h = refl
+look-later r ts at bs (starts {b} m) h =
+    let other : b ≡ r .tag → ⊥ = λ e. true-false m (rw e h) in
+    rw (ne-eqb b (r .tag) other, m)
+
+look-nothing : (r : Entry) (ts : List ℕ) (at : ℕ) → look r ts at [] ≡ passed r at true
+unfolding look
+look-nothing r ts at = refl
+
+-- a row whose object is absent
+absent-is : (k : ℕ → List ℕ → Walked) (r : Entry) (at : ℕ) (bs : List ℕ) (w : Walked) → k at bs ≡ w
+    → onward k at bs (passed r at true) ≡ unlessMet r at (fault (r .row) []) (push [] w)
+unfolding onward passed fault unlessMet refusalAt
+absent-is k r at bs w e = go (r .row .required)
+  where
+    go : (q : Bool) → onward k at bs (cond q (wrong (refuse 6 at (r .tag))) absent) ≡ unlessMet r at (cond q missing met) (push [] w)
+    go true = refl
+    go false = rw e
+
+-- the object of row r stands next
+look-object : (r : Entry) (ts : List ℕ) (at b : ℕ) (v rest : List ℕ)
+    → look r ts at (object (r .tag) (b ∷ v) ++ rest)
+    ≡ cond (permitted (r .row .lengths) (length (b ∷ v))) (weighed r (at + 2) (b ∷ v) rest (judged (r .row .rule) (b ∷ v))) (wrong (refuseLength (at + 1) (r .tag) (r .row .lengths)))
+unfolding look objectAt
+look-object r ts at b v rest =
+    let room : suc (length v) ≤ suc (length (v ++ rest)) = omega (arith, length-append v rest) in
+    rw (eq-eqb (r .tag) (r .tag) refl, take-append-seam v rest, drop-append-seam v rest, le-leb (suc (length v)) (suc (length (v ++ rest))) room)
+
+present-is : (k : ℕ → List ℕ → Walked) (r : Entry) (ts : List ℕ) (at b : ℕ) (v rest : List ℕ) (w : Walked) → k (at + length (object (r .tag) (b ∷ v))) rest ≡ w
+    → onward k at (object (r .tag) (b ∷ v) ++ rest) (look r ts at (object (r .tag) (b ∷ v) ++ rest)) ≡ unlessMet r at (fault (r .row) (b ∷ v)) (push (b ∷ v) w)
+unfolding onward fault unlessMet refusalAt weighed
+present-is k r ts at b v rest w e = rw look-object (go (permitted (r .row .lengths) (length (b ∷ v))) (judged (r .row .rule) (b ∷ v)))
+  where
+    next : at + 2 + suc (length v) ≡ at + suc (suc (suc (length v)))
+    next = omega arith
+
+    go : (q : Bool) (d : Verdict)
+        → onward k at (object (r .tag) (b ∷ v) ++ rest) (cond q (weighed r (at + 2) (b ∷ v) rest d) (wrong (refuseLength (at + 1) (r .tag) (r .row .lengths))))
+        ≡ unlessMet r at (cond q (ofVerdict d) length-out) (push (b ∷ v) w)
+    go false d = refl
+    go true Takes = rw (next, e)
+    go true (Outside i) = refl
+    go true Breaks = refl
+
+distinct-head : (t : ℕ) (ts : List ℕ) → distinct (t ∷ ts) ≡ true → among t ts ≡ false
+unfolding distinct
+distinct-head t ts d = not-true (among t ts) (and-left (not (among t ts)) (distinct ts) d)
+
+distinct-tail : (t : ℕ) (ts : List ℕ) → distinct (t ∷ ts) ≡ true → distinct ts ≡ true
+unfolding distinct
+distinct-tail t ts d = and-right (not (among t ts)) (distinct ts) d
+
+-- over the bytes that any values make, the walk gives the values, or stops at the first row in card order that is not met
+pub walk-body : (rs : List Entry) (vs : List (List ℕ)) (at : ℕ) → distinct (tagsOf rs) ≡ true → walk rs at (body (tagsOf rs) vs) ≡ appraise rs at vs
+unfolding walk body appraise
+walk-body [] [] at d = refl
+walk-body [] (v ∷ vs) at d = refl
+walk-body (r ∷ rs) [] at d = rw (look-nothing r (tagsOf rs) at) (absent-is (walk rs) r at [] _ (walk-body rs [] at (distinct-tail (r .tag) (tagsOf rs) d)))
+walk-body (r ∷ rs) ([] ∷ vs) at d =
+    let fresh : among (r .tag) (tagsOf rs) ≡ false = distinct-head (r .tag) (tagsOf rs) d in
+    rw (look-later r (tagsOf rs) at (body (tagsOf rs) vs) (heads (tagsOf rs) vs) fresh, add-zero)
+    (absent-is (walk rs) r at (body (tagsOf rs) vs) _ (walk-body rs vs at (distinct-tail (r .tag) (tagsOf rs) d)))
+walk-body (r ∷ rs) ((b ∷ v) ∷ vs) at d =
+    present-is (walk rs) r (tagsOf rs) at b v (body (tagsOf rs) vs) _ (walk-body rs vs _ (distinct-tail (r .tag) (tagsOf rs) d))
+
+-- ---- a row is met exactly where it has no fault
+pub fault-met : (r : Row) (v : List ℕ) → RowMet r v → fault r v ≡ met
+unfolding fault
+fault-met r [] h = rw h
+fault-met r (b ∷ v) h = rw (h .0, h .1)
+
+pub met-fault : (r : Row) (v : List ℕ) → fault r v ≡ met → RowMet r v
+unfolding fault
+met-fault r [] = go (r .required)
+  where
+    go : (q : Bool) → cond q missing met ≡ met → q ≡ false
+    go true e = cc
+    go false e = refl
+met-fault r (b ∷ v) = go (permitted (r .lengths) (length (b ∷ v))) (judged (r .rule) (b ∷ v))
+  where
+    go : (q : Bool) (d : Verdict) → cond q (ofVerdict d) length-out ≡ met → (q ≡ true) × (d ≡ Takes)
+    go false d e = (cc, cc)
+    go true Takes e = (refl, refl)
+    go true (Outside i) e = (refl, cc)
+    go true Breaks e = (refl, cc)
+
+pub appraise-met : {rs : List Entry} {vs : List (List ℕ)} (at : ℕ) → AllMet rs vs → appraise rs at vs ≡ through vs []
+unfolding appraise unlessMet push
+appraise-met at none-left = refl
+appraise-met at (one-more {r} {v} {rs} {vs} h t) = rw (fault-met (r .row) v h, appraise-met (at + length (object (r .tag) v)) t)
+
+-- where every row is met, the walk gives the values
+pub complete : (rs : List Entry) (vs : List (List ℕ)) (at : ℕ) → distinct (tagsOf rs) ≡ true → AllMet rs vs → walk rs at (body (tagsOf rs) vs) ≡ through vs []
+complete rs vs at d h = walk-body rs vs at d ∙ appraise-met at h
+
+-- ---- what a row that finds its object has before it
+data View (r : Entry) (bs : List ℕ) : Seen → Type 0 where
+  left-out : r .row .required ≡ false → View r bs absent
+  found : {v rest : List ℕ} → bs ≡ r .tag ∷ length v ∷ (v ++ rest) → permitted (r .row .lengths) (length v) ≡ true → judged (r .row .rule) v ≡ Takes → View r bs (there v rest)
+  amiss : {x : Refusal} → View r bs (wrong x)
+
+view-passed : (r : Entry) (bs : List ℕ) (at : ℕ) (f : Bool) → View r bs (passed r at f)
+unfolding passed
+view-passed r bs at f = go (r .row .required) refl
+  where
+    go : (q : Bool) → r .row .required ≡ q → View r bs (cond q (wrong (cond f (refuse 6 at (r .tag)) (refuse 5 at 0))) absent)
+    go true e = amiss
+    go false e = left-out e
+
+view-object : (r : Entry) (at : ℕ) (bs : List ℕ) → View r (r .tag ∷ bs) (objectAt r at bs)
+unfolding objectAt weighed
+view-object r at [] = amiss
+view-object r at (n ∷ bs) = go (permitted (r .row .lengths) n) refl (leb n (length bs)) refl (judged (r .row .rule) (take n bs)) refl
+  where
+    go : (q : Bool) → permitted (r .row .lengths) n ≡ q → (m : Bool) → leb n (length bs) ≡ m → (d : Verdict) → judged (r .row .rule) (take n bs) ≡ d
+        → View r (r .tag ∷ n ∷ bs) (cond q (cond m (weighed r (at + 2) (take n bs) (drop n bs) d) (wrong (refuse 8 at (r .tag)))) (wrong (refuseLength (at + 1) (r .tag) (r .row .lengths))))
+    go false p m l d e = amiss
+    go true p false l d e = amiss
+    go true p true l Takes e =
+        let same : length (take n bs) ≡ n = length-take-le n bs (leb-true n (length bs) l) in
+        found {v = take n bs} {rest = drop n bs} (rw (same, take-append-drop)) (rw same p) e
+    go true p true l (Outside i) e = amiss
+    go true p true l Breaks e = amiss
+
+view : (r : Entry) (ts : List ℕ) (at : ℕ) (bs : List ℕ) → View r bs (look r ts at bs)
+unfolding look
+view r ts at [] = view-passed r [] at true
+view r ts at (b ∷ bs) = go (eqb b (r .tag)) refl
+  where
+    go : (q : Bool) → eqb b (r .tag) ≡ q → View r (b ∷ bs) (cond q (objectAt r at bs) (passed r at (among b ts)))
+    go true e = rw (eqb-true b (r .tag) e) (view-object r at bs)
+    go false e = view-passed r (b ∷ bs) at (among b ts)
+
+-- no row permits the length 0
+unfoldable pub positive : List Entry → Bool
+positive [] = true
+positive (r ∷ rs) = not (permitted (r .row .lengths) 0) && positive rs
+
+abbrev Sound : List Entry → List ℕ → Walked → Type 0
+Sound rs bs (through vs rest) = AllMet rs vs × (bs ≡ body (tagsOf rs) vs ++ rest)
+Sound rs bs (stopped x) = Unit {0}
+
+push-sound : (r : Entry) (rs : List Entry) (v bs bs′ : List ℕ) (w : Walked) → RowMet (r .row) v → bs ≡ object (r .tag) v ++ bs′ → Sound rs bs′ w → Sound (r ∷ rs) bs (push v w)
+unfolding push body
+push-sound r rs v bs bs′ (through vs rest) m e s = (one-more m (s .0), rw (append-assoc) (rw (← s .1) e))
+push-sound r rs v bs bs′ (stopped x) m e s = tt
+
+onward-sound : (r : Entry) (rs : List Entry) (at : ℕ) (bs : List ℕ) (x : Seen) → permitted (r .row .lengths) 0 ≡ false → View r bs x
+    → ((at′ : ℕ) (bs′ : List ℕ) → Sound rs bs′ (walk rs at′ bs′)) → Sound (r ∷ rs) bs (onward (walk rs) at bs x)
+unfolding onward
+onward-sound r rs at bs x z (left-out h) ih = push-sound r rs [] bs bs (walk rs at bs) h refl (ih at bs)
+onward-sound r rs at bs x z (found {v = []} {rest} e i f) ih = absurd (true-false i z)
+onward-sound r rs at bs x z (found {v = b ∷ v} {rest} e i f) ih = push-sound r rs (b ∷ v) bs rest (walk rs _ rest) (i, f) e (ih _ rest)
+onward-sound r rs at bs x z amiss ih = tt
+
+sound-all : (rs : List Entry) (at : ℕ) (bs : List ℕ) → positive rs ≡ true → Sound rs bs (walk rs at bs)
+unfolding walk positive body
+sound-all [] at bs p = (none-left, refl)
+sound-all (r ∷ rs) at bs p =
+    onward-sound r rs at bs (look r (tagsOf rs) at bs)
+    (not-true (permitted (r .row .lengths) 0) (and-left (not (permitted (r .row .lengths) 0)) (positive rs) p)) (view r (tagsOf rs) at bs)
+    (λ at′ bs′. sound-all rs at′ bs′ (and-right (not (permitted (r .row .lengths) 0)) (positive rs) p))
+
+-- where the walk gives values, every row is met, and the bytes are exactly theirs
+pub sound : (rs : List Entry) (at : ℕ) (bs : List ℕ) (vs : List (List ℕ)) (rest : List ℕ) → positive rs ≡ true → walk rs at bs ≡ through vs rest
+    → AllMet rs vs × (bs ≡ body (tagsOf rs) vs ++ rest)
+sound rs at bs vs rest p e = rw e at (sound-all rs at bs p)

@@ -1,0 +1,15 @@
+-- The laws of the definitions.
+pub mod Tags
+pub mod Rows
+pub mod Tables
+pub mod Next
+pub mod Follow
+pub mod Places
+pub mod Bridge
+pub mod Runs
+pub mod Heads
+pub mod Tails
+pub mod Copies
+pub mod Listed
+pub mod Answers
+pub mod Inspections

@@ -1,0 +1,5 @@
+-- What the reader answers.
+pub mod Walk
+pub mod Objects
+pub mod Reading
+pub mod Steps

@@ -1,0 +1,122 @@
+-- The objects of a template by their addresses: the rows are walked in card order, each object from where the one before it ends.
+use Prim.Native.Nat.{ℕ, suc, _+_, _-_}
+use mathlib.Core.Bool.{Bool, true, false, cond, not, _&&_}
+use mathlib.Core.List.{List, [], _∷_}
+use lib.Dec.{eqb, leb, ltb}
+use lib.ListN.{getD, take, drop, set}
+use Rattle.edition.specs.declared.Rule.the-variants.{Digits}
+use Rattle.edition.specs.declared.Row.{Row}
+use Rattle.edition.specs.declared.values.Verdict.{Verdict}
+use Rattle.edition.specs.declared.values.Verdict.the-variants.{Takes, Outside, Breaks}
+use Rattle.edition.specs.Lists.{leading}
+use Rattle.edition.specs.Sets.{permitted}
+use Rattle.edition.specs.Values.{judged}
+use Rattle.edition.specs.Rows.{tags, tagOf, noRow}
+use Rattle.card.specs.declared.Refusal.{Refusal}
+use Rattle.card.specs.Refusals.{refuse, refuseLength}
+use Rattle.reader.specs.declared.objects.Found.{Found}
+use Rattle.reader.specs.declared.objects.Found.the-variants.{Object, Refused}
+use Rattle.reader.specs.declared.objects.Listing.{Listing}
+use Rattle.reader.specs.Walk.{Walked, through, stopped}
+
+-- the object reader's answer in the document's numbers: an object's tag, where its value begins and how long it is; or number, place and tag of a refusal
+pub record Told : Type 0 where
+  pub refused : Bool
+  pub number : ℕ
+  pub place : ℕ
+  pub tag : ℕ
+  pub row : ℕ
+  pub start : ℕ
+  pub length : ℕ
+
+abbrev pub told : Found → Told
+told (Object k start n) = record { refused = false; number = 0; place = 0; tag = tagOf k; row = k; start = start; length = n }
+told (Refused x place tag) = record { refused = true; number = x; place = place; tag = tag; row = 0; start = 0; length = 0 }
+
+-- the row that has the tag b; 17 where none has
+abbrev pub other : ℕ → ℕ → Bool
+other b t = not (eqb t b)
+
+unfoldable pub rowOf : ℕ → ℕ
+rowOf b = leading (other b) tags
+
+-- b is the tag of a row after k
+abbrev pub later : ℕ → ℕ → Bool
+later k b = ltb k (rowOf b) && ltb (rowOf b) 17
+
+-- the required row k is passed over, where b is met: 5 before 6, and at the end no tag is due
+unfoldable pub missing : ℕ → ℕ → ℕ → ℕ → Found
+missing at end k b = cond (ltb at end && not (later k b)) (Refused 5 at 0) (Refused 6 at (tagOf k))
+
+-- row k's value of n bytes at start, by its verdict
+unfoldable pub valued : ℕ → ℕ → ℕ → Verdict → Found
+valued k start n Takes = Object k start n
+valued k start n (Outside i) = Refused 9 (start + i) (tagOf k)
+valued k start n Breaks = Refused 10 start (tagOf k)
+
+abbrev pub valueAt : List ℕ → ℕ → ℕ → List ℕ
+valueAt s start n = take n (drop start s)
+
+-- row k's object, whose tag stands at `at`: 8 for the length byte, 7, 8 for the value, 9, 10
+unfoldable pub foundAt : List ℕ → ℕ → ℕ → ℕ → Row → Found
+foundAt s at end k r =
+    cond (leb end (at + 1)) (Refused 8 at (tagOf k))
+    (cond (permitted (r .lengths) (getD s (at + 1) 0))
+    (cond (ltb end (at + 2 + getD s (at + 1) 0)) (Refused 8 at (tagOf k))
+    (valued k (at + 2) (getD s (at + 1) 0) (judged (r .rule) (valueAt s (at + 2) (getD s (at + 1) 0)))))
+    (Refused 7 (at + 1) (tagOf k)))
+
+-- row k's tag stands at `at`, before the end
+abbrev pub here : List ℕ → ℕ → ℕ → ℕ → Bool
+here s at end k = ltb at end && eqb (getD s at 0) (tagOf k)
+
+-- the next object, of the rows from number k on
+unfoldable pub nextFrom : List ℕ → ℕ → ℕ → ℕ → List Row → Found
+nextFrom s at end k [] = Refused 5 at 0
+nextFrom s at end k (r ∷ rs) =
+    cond (here s at end k) (foundAt s at end k r)
+    (cond (r .required) (missing at end k (getD s at 0)) (nextFrom s at end (suc k) rs))
+
+-- every row is done, and `at` is behind the last object
+abbrev pub finished : ℕ → List ℕ → List ℕ → Listing
+finished at starts lengths = record { number = 0; place = 0; tag = 0; at = at; starts = starts; lengths = lengths }
+
+-- a refusal ends the reading, and an object is taken into the table
+abbrev pub onFound : Found → ℕ → List ℕ → List ℕ → (ℕ → ℕ → ℕ → Listing) → Listing
+onFound (Object k start n) at starts lengths took = took k start n
+onFound (Refused x place tag) at starts lengths took =
+    record { number = x; place = place; tag = tag; at = at; starts = starts; lengths = lengths }
+
+abbrev pub ended : ℕ → List ℕ → List ℕ → ℕ → ℕ → ℕ → Listing
+ended at starts lengths k start n = finished at starts lengths
+
+-- all objects, of the rows from number k on; `fresh` says that the row before was there, so that nothing is due where no row is left
+unfoldable pub listFrom : List ℕ → ℕ → ℕ → List Row → Bool → ℕ → List ℕ → List ℕ → Listing
+listFrom s end k [] fresh at starts lengths =
+    cond fresh (finished at starts lengths) (onFound (Refused 5 at 0) at starts lengths (ended at starts lengths))
+listFrom s end k (r ∷ rs) fresh at starts lengths =
+    cond (here s at end k)
+    (onFound (foundAt s at end k r) at starts lengths
+    (λ j start n. listFrom s end (suc k) rs true (start + n) (set starts j start) (set lengths j n)))
+    (cond (r .required) (onFound (missing at end k (getD s at 0)) at starts lengths (ended at starts lengths))
+    (listFrom s end (suc k) rs false at starts lengths))
+
+-- ---- what a listing says of the template
+-- a refusal with its ends, those of the row that has the tag with number 7
+unfoldable pub refusalOf : List Row → ℕ → ℕ → ℕ → Refusal
+refusalOf rows number place tag =
+    cond (eqb number 7) (refuseLength place tag (getD rows (rowOf tag) noRow .lengths)) (refuse number place tag)
+
+abbrev pub refusalAt : List Row → Listing → Refusal
+refusalAt rows l = refusalOf rows (l .number) (l .place) (l .tag)
+
+unfoldable pub valuesAt : List ℕ → List ℕ → List ℕ → List (List ℕ)
+valuesAt s [] lengths = []
+valuesAt s (start ∷ starts) [] = []
+valuesAt s (start ∷ starts) (n ∷ lengths) = valueAt s start n ∷ valuesAt s starts lengths
+
+-- the values of all rows and what is left behind them, or the refusal
+unfoldable pub walked : List ℕ → ℕ → List Row → Listing → Walked
+walked s end rows l =
+    cond (eqb (l .number) 0) (through (valuesAt s (l .starts) (l .lengths)) (take (end - l .at) (drop (l .at) s)))
+    (stopped (refusalAt rows l))

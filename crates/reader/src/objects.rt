@@ -1,0 +1,162 @@
+// The objects of a template, by their addresses.
+use edition::Row;
+use edition::Verdict;
+ghost use mathlib.Core.Path.{_≡_};
+ghost use mathlib.Core.Bool.{false};
+ghost use Prim.Native.Nat.{_+_, _<_, _≤_};
+ghost use lib.ListN.{length, getD, drop, replicate};
+ghost use Rattle.edition.specs.Values.{told as verdictTold};
+ghost use Rattle.reader.specs.Objects.{told, rowOf, missing, valued, foundAt, nextFrom, listFrom};
+
+// What the object reader answers.
+pub(crate) enum Found {
+    // The row, where its value starts, and its length.
+    Object(usize, usize, usize),
+    // The number, the place and the tag.
+    Refused(u8, usize, u8),
+}
+
+// Where the values of a template stand: entry k is row k's, and 0 where its object is absent.
+pub(crate) struct Listing {
+    // The number, the place and the tag of the refusal; 0 where every row is done.
+    pub number: u8,
+    pub place: usize,
+    pub tag: u8,
+    // The address behind the last object that was read.
+    pub at: usize,
+    pub starts: [usize; 17],
+    pub lengths: [usize; 17],
+}
+
+// The row that has a tag; 17 where none has.
+pub(crate) fn row_of(tag: u8) -> usize
+    ensures { λ r. ⌜ r ≡ rowOf tag ⌝ }
+{
+    let mut k: usize = 0;
+    while k < 17 {
+        if edition::tag_of(k) == tag {
+            return k;
+        }
+        k += 1;
+    }
+    k
+}
+
+fn byte_at(image: &[u8], at: usize) -> u8
+    ensures { λ r. ⌜ r ≡ getD (now (image .entry)) at 0 ⌝ }
+{
+    if at < image.len() { image[at] } else { 0 }
+}
+
+// What a required row k is refused with where the byte b is met in place of its tag.
+fn refuse_missing(at: usize, end: usize, k: usize, b: u8) -> Found
+    ensures { λ r. ⌜ told r ≡ told (missing at end k b) ⌝ }
+{
+    let row = row_of(b);
+    if (at < end) & !((k < row) & (row < 17)) {
+        Found::Refused(5, at, 0)
+    } else {
+        Found::Refused(6, at, edition::tag_of(k))
+    }
+}
+
+// The answer for row k's value, by how it stands to its rule.
+fn weigh(k: usize, start: usize, n: usize, verdict: Verdict) -> Found
+    requires { ⌜ start + verdictTold verdict .index < 65536 ⌝ }
+    ensures { λ r. ⌜ told r ≡ told (valued k start n verdict) ⌝ }
+{
+    match verdict {
+        Verdict::Takes => Found::Object(k, start, n),
+        Verdict::Outside(i) => Found::Refused(9, start + i, edition::tag_of(k)),
+        Verdict::Breaks => Found::Refused(10, start, edition::tag_of(k)),
+    }
+}
+
+// Row k's object, whose tag stands at `at`.
+fn object_at(image: &[u8], at: usize, end: usize, k: usize, row: Row) -> Found
+    requires { ⌜ (at < end) × ((end ≤ 256) × (end ≤ length (now image))) ⌝ }
+    ensures { λ r. ⌜ told r ≡ told (foundAt (now (image .entry)) at end k row) ⌝ }
+{
+    let length_at = at + 1;
+    if end <= length_at {
+        return Found::Refused(8, at, edition::tag_of(k));
+    }
+    let n = image[length_at];
+    if !edition::permits(row.lengths, n) {
+        return Found::Refused(7, length_at, edition::tag_of(k));
+    }
+    let start = at + 2;
+    let stop = start + n as usize;
+    if end < stop {
+        return Found::Refused(8, at, edition::tag_of(k));
+    }
+    let rule = row.rule;
+    let verdict = edition::judge(rule, &image[start..stop]);
+    weigh(k, start, n as usize, verdict)
+}
+
+// The next object: the rows are walked from the row `next` on.
+pub(crate) fn next_object(
+    image: &[u8],
+    rows: [Row; 17],
+    next: usize,
+    at: usize,
+    end: usize,
+) -> Found
+    requires { ⌜ (end ≤ 256) × (end ≤ length (now image)) ⌝ }
+    ensures { λ r. ⌜ told r ≡ told (nextFrom (now (image .entry)) at end next (drop next rows)) ⌝ }
+{
+    let b = byte_at(image, at);
+    let mut k = next;
+    while k < 17 {
+        let row = rows[k];
+        if (at < end) & (b == edition::tag_of(k)) {
+            return object_at(image, at, end, k, row);
+        }
+        if row.required {
+            return refuse_missing(at, end, k, b);
+        }
+        k += 1;
+    }
+    Found::Refused(5, at, 0)
+}
+
+// Reads the objects of a template from `from` to `end`.
+pub(crate) fn list_objects(image: &[u8], rows: [Row; 17], from: usize, end: usize) -> Listing
+    requires { ⌜ (from ≤ end) × ((end ≤ 256) × (end ≤ length (now image))) ⌝ }
+    ensures { λ r. ⌜ r ≡ listFrom (now (image .entry)) end 0 rows false from (replicate 17 0) (replicate 17 0) ⌝ }
+{
+    let mut starts = [0usize; 17];
+    let mut lengths = [0usize; 17];
+    let mut next: usize = 0;
+    let mut at = from;
+    while next < 17 {
+        let found = next_object(image, rows, next, at, end);
+        match found {
+            Found::Object(row, start, n) => {
+                starts[row] = start;
+                lengths[row] = n;
+                at = start + n;
+                next = row + 1;
+            }
+            Found::Refused(number, place, tag) => {
+                return Listing {
+                    number,
+                    place,
+                    tag,
+                    at,
+                    starts,
+                    lengths,
+                };
+            }
+        }
+    }
+    Listing {
+        number: 0,
+        place: 0,
+        tag: 0,
+        at,
+        starts,
+        lengths,
+    }
+}

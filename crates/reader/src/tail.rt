@@ -1,0 +1,66 @@
+// What stands behind the template: the filler, then the last byte or bytes.
+use crate::head::count_same;
+ghost use mathlib.Core.Path.{_≡_};
+ghost use mathlib.Core.List.{_∷_};
+ghost use Prim.Native.Nat.{_+_, _-_, _≤_};
+ghost use lib.ListN.{length, getD, replicate};
+ghost use Rattle.edition.specs.Lists.{agree};
+ghost use Rattle.card.specs.Fields.{lengthField};
+ghost use Rattle.card.specs.Layout.{filler};
+
+// How many bytes the tag and the length of a filler of so many spaces take.
+fn lead_size(count: usize) -> usize
+    ensures { λ r. ⌜ r ≡ 1 + length (lengthField count) ⌝ }
+{
+    if count <= 127 { 2 } else { 3 }
+}
+
+// How many bytes of that tag and length a part begins with.
+fn lead_same(part: &[u8], count: usize) -> usize
+    requires { ⌜ (3 ≤ length (now part)) × (count ≤ 255) ⌝ }
+    ensures { λ r. ⌜ r ≡ agree (0xC0 ∷ lengthField count) (now (part .entry)) ⌝ }
+{
+    let n = count as u8;
+    if count <= 127 {
+        count_same(part, &[0xC0, n])
+    } else {
+        count_same(part, &[0xC0, 0x81, n])
+    }
+}
+
+// How many bytes at the head of a part are b.
+fn count_run(part: &[u8], b: u8) -> usize
+    ensures { λ r. ⌜ r ≡ agree (replicate (length (now (part .entry))) b) (now (part .entry)) ⌝ }
+{
+    let mut i = 0;
+    while i < part.len() {
+        if part[i] != b {
+            return i;
+        }
+        i += 1;
+    }
+    i
+}
+
+// How many bytes of the part that begins behind the template are as they must be.
+pub(crate) fn tail_same(part: &[u8]) -> usize
+    requires { ⌜ (3 ≤ length (now part)) × (length (now part) ≤ 256) ⌝ }
+    ensures { λ r. ⌜ r ≡ agree (filler (length (now (part .entry)) - 1) (getD (now (part .entry)) (length (now (part .entry)) - 1) 0)) (now (part .entry)) ⌝ }
+{
+    let size = part.len();
+    let spaces = card::count_spaces(size - 1);
+    let start = lead_size(spaces);
+    let lead = lead_same(part, spaces);
+    if lead < start {
+        return lead;
+    }
+    let stop = start + spaces;
+    let run = count_run(&part[start..stop], 0x20);
+    if run < spaces {
+        return start + run;
+    }
+    if part[stop] != part[size - 1] {
+        return stop;
+    }
+    size
+}

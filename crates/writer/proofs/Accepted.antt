@@ -1,0 +1,105 @@
+-- What a record has that no check refuses, and what the buffer then holds. Assumes nothing.
+use mathlib.Core.Path.{_≡_, refl, ap}
+use mathlib.Core.Bool.{Bool, true, false, cond, _&&_}
+use mathlib.Core.List.{List, [], _∷_, map}
+use Prim.Native.Nat.{ℕ, zero, suc, _≤_, _<_, _^_}
+use native.Mathlib.Nat.{le-of-suc-le-suc}
+use native.Mathlib.Omega.{arith}
+use borrow.Author.Tests.{eq-eqb, ne-eqb, eqb-true, eqb-false, leb-true}
+use lib.Dec.{eqb, leb}
+use lib.ListN.{length, getD}
+use Rattle.edition.specs.declared.Row.{Row}
+use Rattle.edition.specs.declared.Edition.{Edition}
+use Rattle.edition.specs.Sets.{permitted}
+use Rattle.edition.specs.Values.{judged}
+use Rattle.edition.specs.Rows.{tags, formedFrom, noRow}
+use Rattle.edition.proofs.Lists.{and-right}
+use Rattle.edition.proofs.Rows.{formed-within, permits-most}
+use Rattle.card.specs.declared.Object.{Object}
+use Rattle.card.specs.declared.Record.{Record}
+use Rattle.card.specs.declared.Refusal.{Refusal}
+use Rattle.card.specs.Content.{Content, valueOf, contentOf}
+use Rattle.card.specs.Layout.{templateLength, objectTags, objectsOf, layout}
+use Rattle.card.specs.Refusals.{none, gate, refuse}
+use Rattle.card.specs.Rules.{entries, length-out, ofVerdict, fault}
+use Rattle.writer.specs.Writing.{rowRefusal, rowsRefusal, refusal, refusalOf, bufferAfter}
+use Rattle.writer.specs.Checking.{entryOf, templateRefusal}
+use Rattle.writer.specs.Storing.{absent, Storable}
+use Rattle.writer.proofs.Items.{claim-short}
+use Rattle.writer.proofs.Order.{Neither, neither, table-well, row-or, refused-size, in-order}
+
+-- ---- where no row refuses, no object claims more than 28 bytes
+row-short : (t : ℕ) (r : Row) (v : List ℕ) → r .lengths < 2 ^ 29 → rowRefusal (entryOf t r) (fault r v) none .number ≡ 0 → length v ≤ 28
+unfolding fault rowRefusal
+row-short t r [] h e = omega arith
+row-short t r (b ∷ v) h e = go (permitted (r .lengths) (length (b ∷ v))) refl e
+  where
+    go : (q : Bool) → permitted (r .lengths) (length (b ∷ v)) ≡ q
+        → rowRefusal (entryOf t r) (cond q (ofVerdict (judged (r .rule) (b ∷ v))) length-out) none .number ≡ 0 → length (b ∷ v) ≤ 28
+    go true p z = permits-most (r .lengths) (length (b ∷ v)) h p
+    go false p z = absurd (omega arith)
+
+-- of a row and what follows it, neither refuses
+parted : (t : ℕ) (r : Row) (o : Object) (w : Refusal) → rowRefusal (entryOf t r) (fault r (valueOf o)) w .number ≡ 0
+    → Neither (rowRefusal (entryOf t r) (fault r (valueOf o)) none) w
+parted t r o w e = neither (rowRefusal (entryOf t r) (fault r (valueOf o)) none) w (rw row-or at e)
+
+all-short : (ts : List ℕ) (rs : List Row) (os : List Object) → length os ≤ length ts → length os ≤ length rs
+    → ((i : ℕ) → i < length rs → getD rs i noRow .lengths < 2 ^ 29) → rowsRefusal (entries ts rs) (map valueOf os) none .number ≡ 0
+    → (i : ℕ) → getD os i absent .length ≤ 28
+unfolding entries rowsRefusal
+all-short ts rs [] ht hr below e i = omega arith
+all-short [] rs (o ∷ os) ht hr below e i = absurd (omega arith)
+all-short (t ∷ ts) [] (o ∷ os) ht hr below e i = absurd (omega arith)
+all-short (t ∷ ts) (r ∷ rs) (o ∷ os) ht hr below e zero =
+    claim-short o (row-short t r (valueOf o) (below 0 (omega arith)) (parted t r o (rowsRefusal (entries ts rs) (map valueOf os) none) e .first))
+all-short (t ∷ ts) (r ∷ rs) (o ∷ os) ht hr below e (suc i) =
+    all-short ts rs os (le-of-suc-le-suc ht) (le-of-suc-le-suc hr) (λ j h. below (suc j) (omega arith))
+    (parted t r o (rowsRefusal (entries ts rs) (map valueOf os) none) e .second) i
+
+-- ---- a record that is not refused
+pub record Accepted (r : Record) (n : ℕ) : Type 0 where
+  pub sized : n ≡ 256
+  pub storable : Storable r
+
+template-allowed : (c : Content) → templateRefusal c .number ≡ 0 → templateLength (objectsOf c) ≤ 212
+unfolding templateRefusal gate
+template-allowed c e = go (leb 70 (templateLength (objectsOf c)) && leb (templateLength (objectsOf c)) 212) refl e
+  where
+    go : (q : Bool) → (leb 70 (templateLength (objectsOf c)) && leb (templateLength (objectsOf c)) 212) ≡ q → gate q (refuse 4 0 0) none .number ≡ 0
+        → templateLength (objectsOf c) ≤ 212
+    go true p z = leb-true _ _ (and-right (leb 70 (templateLength (objectsOf c))) (leb (templateLength (objectsOf c)) 212) p)
+    go false p z = absurd (omega arith)
+
+size-allowed : (e : Edition) (c : Content) (n : ℕ) → refusal e c n .number ≡ 0 → n ≡ 256
+size-allowed e c n z = go (eqb n 256) refl
+  where
+    go : (q : Bool) → eqb n 256 ≡ q → n ≡ 256
+    go true p = eqb-true n 256 p
+    go false p = absurd (let k = ap (λ (r : Refusal). r .number) (refused-size e c n (eqb-false n 256 p)) in omega arith)
+
+pub accepted : (e : Edition) (r : Record) (n : ℕ) → length (e .rows) ≡ 17 → length (r .objects) ≡ 16 → refusal e (contentOf r) n .number ≡ 0 → Accepted r n
+unfolding contentOf tags
+accepted e r n hr ho z =
+    let s = size-allowed e (contentOf r) n z in
+    let a = neither _ _ (rw (in-order e (contentOf r) n s refl refl refl refl) at z) in
+    let b = neither _ _ (a .second) in
+    let c = neither _ _ (b .second) in
+    let d = neither _ _ (c .second) in
+    let formed = table-well (formedFrom 0 (e .rows)) (a .first) in
+    record {
+      sized = s;
+      storable = record {
+        short = all-short objectTags (e .rows) (r .objects) (omega arith) (omega arith) (λ i h. formed-within (e .rows) i formed h .small) (c .first);
+        most = template-allowed (contentOf r) (d .second);
+      };
+    }
+
+-- ---- the buffer
+pub kept : (e : Edition) (r : Record) (b : List ℕ) → (refusalOf e r b .number ≡ 0 → ⊥) → b ≡ bufferAfter e r b
+unfolding bufferAfter
+kept e r b h = rw (ne-eqb (refusalOf e r b .number) 0 h)
+
+pub written : (e : Edition) (r : Record) (b : List ℕ) → refusalOf e r b .number ≡ 0 → layout (contentOf r) ≡ bufferAfter e r b
+unfolding bufferAfter
+written e r b h = rw (eq-eqb (refusalOf e r b .number) 0 h)

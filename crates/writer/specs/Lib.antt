@@ -1,0 +1,4 @@
+-- What the writer answers, and what it leaves in the buffer.
+pub mod Writing
+pub mod Checking
+pub mod Storing

@@ -1,0 +1,44 @@
+// The writer: a record becomes the 256 bytes of a card, or is refused.
+mod bytes;
+mod checks;
+mod filler;
+mod head;
+mod objects;
+mod refusals;
+mod rows;
+mod sizes;
+mod template;
+
+use card::Record;
+use card::Refusal;
+use edition::Edition;
+ghost use mathlib.Core.Path.{_≡_};
+ghost use lib.ListN.{length};
+ghost use Rattle.card.specs.Content.{contentOf};
+ghost use Rattle.card.specs.Layout.{layout};
+ghost use Rattle.writer.specs.Writing.{refusalOf, bufferAfter};
+ghost use Rattle.writer.specs.Storing.{Storable};
+
+// Writes a record into a buffer of 256 bytes, or says why not and leaves the buffer as it is.
+pub fn write(edition: Edition, content: Record, buffer: &mut [u8]) -> Refusal
+    ensures { λ r. ⌜ r ≡ refusalOf edition content (now (buffer .entry)) ⌝ }
+    ensures { λ _. ⌜ now (buffer .exit) ≡ bufferAfter edition content (now (buffer .entry)) ⌝ }
+{
+    let refusal = checks::check(edition, content, buffer.len());
+    if refusal.number != 0 {
+        return refusal;
+    }
+    write_card(buffer, content);
+    refusal
+}
+
+// Writes all 256 bytes of a record that no check refuses.
+fn write_card(buffer: &mut [u8], content: Record)
+    requires { ⌜ Storable content × (length (now buffer) ≡ 256) ⌝ }
+    ensures { λ _. ⌜ now (buffer .exit) ≡ layout (contentOf content) ⌝ }
+{
+    let free = content.free;
+    head::write_head(buffer, content.first, free);
+    let end = template::write_template(buffer, content);
+    filler::write_filler(&mut buffer[end..], content.last);
+}
