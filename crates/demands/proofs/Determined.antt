@@ -25,6 +25,9 @@ use Rattle.card.proofs.names_fit.Reads as names-fit
 use Rattle.card.proofs.town_fits.Reads as town-fits
 use Rattle.reader.proofs.read.Reads as read
 use Rattle.writer.proofs.write.Reads as write
+use Rattle.kvk.proofs.kvk_read.Reads as kvk-read
+use Rattle.kvk.proofs.kvk_write.Reads as kvk-write
+use Rattle.kvk.proofs.kvk_edition.Reads as kvk-edition
 
 -- `Post` is what a contract ensures: of the lifetimes, the arguments, the answer, and what is lent back at exit
 pub terminal-once : (κs : _) (a : _) (z y : _) (e f : _) → terminal.Post κs a z e → terminal.Post κs a y f → z ≡ y
@@ -94,3 +97,21 @@ write-once κs a z y e f p q = p .0 ∙ sym (q .0)
 
 pub write-buffer-once : (κs : _) (a : _) (z y : _) (e f : _) → write.Post κs a z e → write.Post κs a y f → now (e .1 .1 .0) ≡ now (f .1 .1 .0)
 write-buffer-once κs a z y e f p q = p .1 ∙ sym (q .1)
+
+pub kvk-read-once : (κs : _) (a : _) (z y : _) (e f : _) → kvk-read.Post κs a z e → kvk-read.Post κs a y f → z ≡ y
+kvk-read-once κs a z y e f p q = p .0 ∙ sym (q .0)
+
+pub kvk-read-room-once : (κs : _) (a : _) (z y : _) (e f : _) → kvk-read.Post κs a z e → kvk-read.Post κs a y f → now (e .1 .1 .0) ≡ now (f .1 .1 .0)
+kvk-read-room-once κs a z y e f p q = p .1 ∙ sym (q .1)
+
+pub kvk-write-once : (κs : _) (a : _) (z y : _) (e f : _) → kvk-write.Post κs a z e → kvk-write.Post κs a y f → z ≡ y
+kvk-write-once κs a z y e f p q = p .0 ∙ sym (q .0)
+
+pub kvk-write-room-once : (κs : _) (a : _) (z y : _) (e f : _) → kvk-write.Post κs a z e → kvk-write.Post κs a y f → now (e .1 .1 .0) ≡ now (f .1 .1 .0)
+kvk-write-room-once κs a z y e f p q = p .1 ∙ sym (q .1)
+
+pub kvk-edition-once : (κs : _) (a : _) (z y : _) (e f : _) → kvk-edition.Post κs a z e → kvk-edition.Post κs a y f → z ≡ y
+kvk-edition-once κs a z y e f p q = p .0 ∙ sym (q .0)
+
+pub kvk-edition-room-once : (κs : _) (a : _) (z y : _) (e f : _) → kvk-edition.Post κs a z e → kvk-edition.Post κs a y f → now (e .1 .0) ≡ now (f .1 .0)
+kvk-edition-room-once κs a z y e f p q = p .1 ∙ sym (q .1)

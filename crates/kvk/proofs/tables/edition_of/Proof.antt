@@ -1,0 +1,88 @@
+-- `tables::edition_of` meets its contract. The invariant: the rows passed are those of the pieces passed. Assumes nothing.
+use mathlib.Core.Path.{_≡_, refl, ap}
+use mathlib.Core.List.{List, map}
+use Prim.Native.Nat.{_+_, _-_, _*_, _≤_, _<_}
+use native.Mathlib.Omega.{arith}
+use borrow.Author.Needs.{needs}
+use lib.ListN.{length, take, length-set}
+use Rattle.edition.specs.declared.Row.{Row}
+use Rattle.kvk.specs.Bytes.{pieces}
+use Rattle.kvk.specs.Tables.{rowOf, editionOf}
+use Rattle.kvk.proofs.Pieces.{part-length, stored-more, stored-all}
+use Rattle.kvk.proofs.tables.edition_of.Statement.{statement}
+use Rattle.kvk.proofs.tables.edition_of.Tie as tie
+
+abbrev Inv-loop : tie.InvT-loop
+Inv-loop table edition₀ k₀ edition k = (k ≤ 17) × (length (edition .rows) ≡ 17) × (take k (edition .rows) ≡ map rowOf (pieces 6 k table))
+
+abbrev μ-loop : tie.MeasureT-loop
+μ-loop table edition₀ k₀ edition k = 17 - k
+
+loop-holds : tie.Need-loop-holds Inv-loop μ-loop
+unfolding pieces
+loop-holds c = (search needs, refl, refl)
+
+mul-at : tie.Need-mul-at Inv-loop μ-loop
+mul-at c = search needs
+
+add-end : tie.Need-add-end Inv-loop μ-loop
+add-end c = search needs
+
+sub-row-of : tie.Need-sub-row-of Inv-loop μ-loop
+sub-row-of c = search needs
+
+part-row-of-start : tie.Need-part-row-of-start Inv-loop μ-loop
+part-row-of-start c = search needs
+
+part-row-of-end : tie.Need-part-row-of-end Inv-loop μ-loop
+part-row-of-end c = search needs
+
+row-of-requires : tie.Need-row-of-requires Inv-loop μ-loop
+row-of-requires c κs =
+    let h : c .before .before .loop .k * 6 + 6 ≤ length (c .before .before .before .before .args .table .now) = omega arith in
+    part-length _ _ 6 h
+
+mul-t48 : tie.Need-mul-t48 Inv-loop μ-loop
+mul-t48 c = search needs
+
+element-set-from-edition : tie.Need-element-set-from-edition Inv-loop μ-loop
+element-set-from-edition c = search needs
+
+add-k : tie.Need-add-k Inv-loop μ-loop
+add-k c = search needs
+
+loop-less : tie.Need-loop-less Inv-loop μ-loop
+loop-less c = search needs
+
+loop-again : tie.Need-loop-again Inv-loop μ-loop
+loop-again c =
+    let l = c .before .before .before .loop in
+    let h : l .k < length (l .edition .rows) = omega arith in
+    (search needs, simp length-set (omega arith), stored-more rowOf 6 _ (l .edition .rows) (l .k) (l .inv .2) h (c .row-of .ensures))
+
+returns : tie.Need-returns Inv-loop μ-loop
+unfolding editionOf
+returns c =
+    let l = c .before .loop in
+    let e : l .k ≡ 17 = omega arith in
+    ap (λ (rs : List Row). record { rows = rs }) (rw e at (stored-all rowOf 6 _ (l .edition .rows) (l .k) (l .inv .2) (omega arith)))
+
+pub edition-of-spec : {M : Type 1} → statement M
+edition-of-spec =
+    tie.close
+    (tie.spec
+    Inv-loop
+    μ-loop
+    loop-holds
+    mul-at
+    add-end
+    sub-row-of
+    part-row-of-start
+    part-row-of-end
+    row-of-requires
+    mul-t48
+    element-set-from-edition
+    add-k
+    loop-less
+    loop-again
+    returns)

@@ -1,0 +1,107 @@
+// A table of 102 bytes as an edition, and back.
+use crate::bytes;
+use edition::Edition;
+use edition::Row;
+use edition::Rule;
+ghost use mathlib.Core.Path.{_≡_};
+ghost use lib.ListN.{length};
+ghost use Rattle.kvk.specs.Bytes.{fourBytes};
+ghost use Rattle.kvk.specs.Tables.{numberOf, ruleOf, rowOf, editionOf, rowBytes, tableBytes};
+
+fn number_of(rule: Rule) -> u8
+    ensures { λ r. ⌜ r ≡ numberOf rule ⌝ }
+{
+    match rule {
+        Rule::Digits => 0,
+        Rule::Text => 1,
+        Rule::Lead => 2,
+        Rule::Code => 3,
+        Rule::Birth => 4,
+        Rule::Expiry => 5,
+        Rule::Raw => 6,
+    }
+}
+
+fn rule_of(number: u8) -> Rule
+    ensures { λ r. ⌜ r ≡ ruleOf number ⌝ }
+{
+    match number {
+        0 => Rule::Digits,
+        1 => Rule::Text,
+        2 => Rule::Lead,
+        3 => Rule::Code,
+        4 => Rule::Birth,
+        5 => Rule::Expiry,
+        _ => Rule::Raw,
+    }
+}
+
+fn four_bytes(a: u8, b: u8, c: u8, d: u8) -> u32
+    ensures { λ r. ⌜ r ≡ fourBytes a b c d ⌝ }
+{
+    ((a as u32 * 256 + b as u32) * 256 + c as u32) * 256 + d as u32
+}
+
+// The row of six bytes; its set is empty where one of the first two is no number of the format.
+fn row_of(bytes: &[u8]) -> Row
+    requires { ⌜ length (now bytes) ≡ 6 ⌝ }
+    ensures { λ r. ⌜ r ≡ rowOf (now (bytes .entry)) ⌝ }
+{
+    let required = bytes[0];
+    let rule = bytes[1];
+    let lengths = four_bytes(bytes[2], bytes[3], bytes[4], bytes[5]);
+    Row {
+        required: required == 1,
+        rule: rule_of(rule),
+        lengths: if (required <= 1) & (rule <= 6) {
+            lengths
+        } else {
+            0
+        },
+    }
+}
+
+pub(crate) fn edition_of(table: &[u8]) -> Edition
+    requires { ⌜ length (now table) ≡ 102 ⌝ }
+    ensures { λ r. ⌜ r ≡ editionOf (now (table .entry)) ⌝ }
+{
+    // All seventeen rows are replaced.
+    let mut edition = Edition::TERMINAL;
+    let mut k: usize = 0;
+    while k < 17 {
+        let at = k * 6;
+        let end = at + 6;
+        edition.rows[k] = row_of(&table[at..end]);
+        k += 1;
+    }
+    edition
+}
+
+fn bytes_of(row: Row) -> [u8; 6]
+    ensures { λ r. ⌜ r ≡ rowBytes row ⌝ }
+{
+    let rule = row.rule;
+    let lengths = row.lengths;
+    [
+        row.required as u8,
+        number_of(rule),
+        (lengths >> 24) as u8,
+        ((lengths >> 16) % 256) as u8,
+        ((lengths >> 8) % 256) as u8,
+        (lengths % 256) as u8,
+    ]
+}
+
+pub(crate) fn write_table(edition: Edition, room: &mut [u8])
+    requires { ⌜ length (now room) ≡ 102 ⌝ }
+    ensures { λ _. ⌜ now (room .exit) ≡ tableBytes edition ⌝ }
+{
+    let mut k: usize = 0;
+    while k < 17 {
+        let row = bytes_of(edition.rows[k]);
+        let at = k * 6;
+        let end = at + 6;
+        bytes::copy(&row, &mut room[at..end]);
+        k += 1;
+    }
+}
