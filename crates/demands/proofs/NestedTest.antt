@@ -66,7 +66,7 @@ subset-all k i o small h n t = go (leb k n) refl
 
 -- ---- rules: each of the inner's characters is one of the outer's, where every digit is text; what the outer asks beyond them follows from what the inner asks
 abbrev characters : Rule → Rule → Bool → Bool → Bool
-characters i o text digit = implies (implies digit text) (implies (byClass i digit text) (byClass o digit text))
+characters i o text digit = implies (implies digit text) (implies (byClass i digit text true) (byClass o digit text true))
 
 unfoldable pub charactersTest : Rule → Rule → Bool
 charactersTest i o = every (λ text. every (characters i o text))

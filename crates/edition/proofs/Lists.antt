@@ -1,5 +1,5 @@
 -- Laws of lists of numbers, and of tests on them. Assumes nothing.
-use Prim.Native.Nat.{ℕ, zero, suc, _+_, _≤_, _<_}
+use Prim.Native.Nat.{ℕ, zero, suc, _+_, _≤_, _<_, suc-le-suc}
 use native.Mathlib.Nat.{le-of-suc-le-suc, not-suc-le-zero, zero-lt-suc, add-zero, add-suc, suc-add}
 use native.Mathlib.Numerals.{add-one}
 use native.Mathlib.Omega.{arith}
@@ -90,6 +90,12 @@ leading-at f d (x ∷ xs) h = go (f x) refl h (leading-at f d xs)
         → f (getD (x ∷ xs) (cond q (suc (leading f xs)) 0) d) ≡ false
     go true e l ih = ih (le-of-suc-le-suc l)
     go false e l ih = e
+
+-- two tests that agree on each element count alike
+pub leading-alike : {A : Type 0} (f g : A → Bool) (d : A) (xs : List A) → ((k : ℕ) → k < length xs → f (getD xs k d) ≡ g (getD xs k d)) → leading f xs ≡ leading g xs
+unfolding leading
+leading-alike f g d [] h = refl
+leading-alike f g d (x ∷ xs) h = rw (h 0 (zero-lt-suc (length xs)), leading-alike f g d xs (λ k l. h (suc k) (suc-le-suc l)))
 
 -- a wider test is passed by no fewer
 pub leading-wider : {A : Type 0} (f g : A → Bool) (xs : List A) → ((x : A) → f x ≡ true → g x ≡ true) → length xs ≤ leading f xs → length xs ≤ leading g xs

@@ -11,8 +11,10 @@ use Rattle.edition.specs.declared.Rule.{Rule}
 use Rattle.edition.specs.declared.values.Verdict.{Verdict}
 use Rattle.edition.specs.declared.values.Verdict.the-variants.{Takes, Outside, Breaks}
 use Rattle.edition.specs.Lists.{among, leading}
+use Rattle.edition.specs.declared.Rule.the-variants.{Digits, Text, Lead, Code, Birth, Expiry, Raw}
+use Rattle.edition.specs.Characters.{charactersOf, hasByte}
 use Rattle.edition.specs.Values.{within, isDigit, isText, takes, holds, judged, Told, told}
-use Rattle.edition.proofs.Lists.{alikeBelow, alike-below, leading-before, leading-at, leading-most}
+use Rattle.edition.proofs.Lists.{alikeBelow, alike-below, leading-before, leading-at, leading-most, leading-alike}
 
 -- no two verdicts are told alike
 pub told-apart : (a b : Verdict) → told a ≡ told b → a ≡ b
@@ -29,15 +31,28 @@ told-apart a b e = go a b (ap (λ (t : Told). t .number) e) (ap (λ (t : Told). 
     go Breaks (Outside k) n i = absurd (omega arith)
     go Breaks Breaks n i = refl
 
--- the text of the document, by ranges
-abbrev pub textRanges : ℕ → Bool
-textRanges b =
-    eqb b 0x20 || within 0x26 0x29 b || eqb b 0x2B || within 0x2D 0x39 b
-    || within 0x41 0x5D b || eqb b 0x5F || within 0x61 0x7E b
+-- the bits of a rule's characters are its characters: one computed test for each class
+digit-bits : (b : ℕ) → b < 256 → hasByte (charactersOf Digits) b ≡ isDigit b
+digit-bits = alike-below (hasByte (charactersOf Digits)) isDigit 256 refl
 
-pub text-ranges : (b : ℕ) → b < 256 → textRanges b ≡ isText b
+text-bits : (b : ℕ) → b < 256 → hasByte (charactersOf Text) b ≡ isText b
 unfolding isText among
-text-ranges = alike-below textRanges isText 256 refl
+text-bits = alike-below (hasByte (charactersOf Text)) isText 256 refl
+
+any-bits : (b : ℕ) → b < 256 → hasByte (charactersOf Raw) b ≡ true
+any-bits = alike-below (hasByte (charactersOf Raw)) (λ b. true) 256 refl
+
+pub right-bits : (rule : Rule) (b : ℕ) → b < 256 → hasByte (charactersOf rule) b ≡ takes rule b
+right-bits Digits = digit-bits
+right-bits Text = text-bits
+right-bits Lead = digit-bits
+right-bits Code = text-bits
+right-bits Birth = digit-bits
+right-bits Expiry = digit-bits
+right-bits Raw = any-bits
+
+pub leading-bits : (rule : Rule) (v : List ℕ) → ((k : ℕ) → k < length v → getD v k 0 < 256) → leading (hasByte (charactersOf rule)) v ≡ leading (takes rule) v
+leading-bits rule v h = leading-alike (hasByte (charactersOf rule)) (takes rule) 0 v (λ k l. right-bits rule (getD v k 0) (h k l))
 
 -- exactly 79 bytes are text
 unfoldable pub count : (ℕ → Bool) → ℕ → ℕ

@@ -2,5 +2,6 @@
 pub mod Lists
 pub mod Sets
 pub mod Values
+pub mod Characters
 pub mod Rows
 pub mod Tables

@@ -24,18 +24,18 @@ isText b =
     || among b (0x5B ∷ 0x5C ∷ 0x5D ∷ 0x7B ∷ 0x7C ∷ 0x7D ∷ 0x7E ∷ [])
     || among b (0x20 ∷ 0x26 ∷ 0x27 ∷ 0x28 ∷ 0x29 ∷ 0x2B ∷ 0x2D ∷ 0x2E ∷ 0x2F ∷ 0x5F ∷ [])
 
--- the characters of a rule, by whether a byte is a digit and whether it is text; Raw: any byte
-abbrev pub byClass : Rule → Bool → Bool → Bool
-byClass Digits digit text = digit
-byClass Text digit text = text
-byClass Lead digit text = digit
-byClass Code digit text = text
-byClass Birth digit text = digit
-byClass Expiry digit text = digit
-byClass Raw digit text = true
+-- which characters a rule has: digits, text, any byte
+abbrev pub byClass : {A : Type 0} → Rule → A → A → A → A
+byClass Digits digit text any = digit
+byClass Text digit text any = text
+byClass Lead digit text any = digit
+byClass Code digit text any = text
+byClass Birth digit text any = digit
+byClass Expiry digit text any = digit
+byClass Raw digit text any = any
 
 abbrev pub takes : Rule → ℕ → Bool
-takes rule b = byClass rule (isDigit b) (isText b)
+takes rule b = byClass rule (isDigit b) (isText b) true
 
 -- Lead: the first 1, 3 or 5
 abbrev pub isLead : ℕ → Bool

@@ -3,7 +3,8 @@ use crate::Rule;
 ghost use mathlib.Core.Path.{_≡_};
 ghost use lib.ListN.{getD};
 ghost use Rattle.edition.specs.Lists.{leading};
-ghost use Rattle.edition.specs.Values.{isDigit, isText, byClass, takes, isLead, isCode, two, isBirth, isExpiry, bySense, holds, judged, told};
+ghost use Rattle.edition.specs.Characters.{charactersOf, hasByte};
+ghost use Rattle.edition.specs.Values.{byClass, takes, isLead, isCode, two, isBirth, isExpiry, bySense, holds, judged, told};
 
 // How a value stands to its rule.
 pub enum Verdict {
@@ -14,44 +15,62 @@ pub enum Verdict {
     Breaks,
 }
 
-fn is_digit(b: u8) -> bool
-    ensures { λ r. ⌜ r ≡ isDigit b ⌝ }
-{
-    (b >= 0x30) & (b <= 0x39)
+// The characters of a rule as bits: bit b of `low` for byte b, bit b - 64 of `high` for byte b up to 127; `rest` for those above.
+struct Characters {
+    low: u64,
+    high: u64,
+    rest: bool,
 }
 
-// The 79 byte values of a text, by ranges.
-fn is_text(b: u8) -> bool
-    ensures { λ r. ⌜ r ≡ isText b ⌝ }
-{
-    (b == 0x20)
-        | ((b >= 0x26) & (b <= 0x29))
-        | (b == 0x2B)
-        | ((b >= 0x2D) & (b <= 0x39))
-        | ((b >= 0x41) & (b <= 0x5D))
-        | (b == 0x5F)
-        | ((b >= 0x61) & (b <= 0x7E))
-}
+const DIGITS: Characters = Characters {
+    low: 0x03ff_0000_0000_0000,
+    high: 0,
+    rest: false,
+};
+const TEXT: Characters = Characters {
+    low: 0x03ff_ebc1_0000_0000,
+    high: 0x7fff_fffe_bfff_fffe,
+    rest: false,
+};
+const ANY: Characters = Characters {
+    low: 0xffff_ffff_ffff_ffff,
+    high: 0xffff_ffff_ffff_ffff,
+    rest: true,
+};
 
-// Whether a byte is of a rule's characters, by whether it is a digit and whether it is text.
-fn by_class(rule: Rule, digit: bool, text: bool) -> bool
-    ensures { λ r. ⌜ r ≡ byClass rule digit text ⌝ }
+fn by_class(rule: Rule, digits: Characters, text: Characters, any: Characters) -> Characters
+    ensures { λ r. ⌜ r ≡ byClass rule digits text any ⌝ }
 {
     match rule {
-        Rule::Digits => digit,
+        Rule::Digits => digits,
         Rule::Text => text,
-        Rule::Lead => digit,
+        Rule::Lead => digits,
         Rule::Code => text,
-        Rule::Birth => digit,
-        Rule::Expiry => digit,
-        Rule::Raw => true,
+        Rule::Birth => digits,
+        Rule::Expiry => digits,
+        Rule::Raw => any,
     }
 }
 
-fn takes_byte(rule: Rule, b: u8) -> bool
-    ensures { λ r. ⌜ r ≡ takes rule b ⌝ }
+fn characters_of(rule: Rule) -> Characters
+    ensures { λ r. ⌜ r ≡ charactersOf rule ⌝ }
 {
-    by_class(rule, is_digit(b), is_text(b))
+    by_class(rule, DIGITS, TEXT, ANY)
+}
+
+fn has(characters: Characters, b: u8) -> bool
+    ensures { λ r. ⌜ r ≡ hasByte characters b ⌝ }
+{
+    let word = if b < 64 {
+        characters.low
+    } else {
+        characters.high
+    };
+    if b < 128 {
+        (word >> (b % 64)) % 2 == 1
+    } else {
+        characters.rest
+    }
 }
 
 fn is_lead(b: u8) -> bool
@@ -144,9 +163,10 @@ fn holds_for(rule: Rule, v: &[u8]) -> bool
 fn count_taken(rule: Rule, v: &[u8]) -> usize
     ensures { λ r. ⌜ r ≡ leading (takes rule) (now (v .entry)) ⌝ }
 {
+    let characters = characters_of(rule);
     let mut i: usize = 0;
     while i < v.len() {
-        if !takes_byte(rule, v[i]) {
+        if !has(characters, v[i]) {
             return i;
         }
         i += 1;
