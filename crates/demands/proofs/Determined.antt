@@ -25,6 +25,7 @@ use Rattle.card.proofs.names_fit.Reads as names-fit
 use Rattle.card.proofs.town_fits.Reads as town-fits
 use Rattle.reader.proofs.read.Reads as read
 use Rattle.writer.proofs.write.Reads as write
+use Rattle.listing.proofs.list.Reads as list
 use Rattle.kvk.proofs.kvk_read.Reads as kvk-read
 use Rattle.kvk.proofs.kvk_write.Reads as kvk-write
 use Rattle.kvk.proofs.kvk_edition.Reads as kvk-edition
@@ -115,3 +116,9 @@ kvk-edition-once κs a z y e f p q = p .0 ∙ sym (q .0)
 
 pub kvk-edition-room-once : (κs : _) (a : _) (z y : _) (e f : _) → kvk-edition.Post κs a z e → kvk-edition.Post κs a y f → now (e .1 .0) ≡ now (f .1 .0)
 kvk-edition-room-once κs a z y e f p q = p .1 ∙ sym (q .1)
+
+pub list-once : (κs : _) (a : _) (z y : _) (e f : _) → list.Post κs a z e → list.Post κs a y f → z ≡ y
+list-once κs a z y e f p q = p .0 ∙ sym (q .0)
+
+pub list-room-once : (κs : _) (a : _) (z y : _) (e f : _) → list.Post κs a z e → list.Post κs a y f → now (e .1 .1 .0) ≡ now (f .1 .1 .0)
+list-room-once κs a z y e f p q = p .1 .0 ∙ sym (q .1 .0)

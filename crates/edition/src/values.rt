@@ -27,11 +27,13 @@ const DIGITS: Characters = Characters {
     high: 0,
     rest: false,
 };
+
 const TEXT: Characters = Characters {
     low: 0x03ff_ebc1_0000_0000,
     high: 0x7fff_fffe_bfff_fffe,
     rest: false,
 };
+
 const ANY: Characters = Characters {
     low: 0xffff_ffff_ffff_ffff,
     high: 0xffff_ffff_ffff_ffff,

@@ -65,16 +65,20 @@ pub(crate) fn edition_of(table: &[u8]) -> Edition
     requires { ⌜ length (now table) ≡ 102 ⌝ }
     ensures { λ r. ⌜ r ≡ editionOf (now (table .entry)) ⌝ }
 {
-    // All seventeen rows are replaced.
-    let mut edition = Edition::TERMINAL;
+    let blank = Row {
+        required: false,
+        rule: Rule::Digits,
+        lengths: 0,
+    };
+    let mut rows = [blank; 17];
     let mut k: usize = 0;
     while k < 17 {
         let at = k * 6;
         let end = at + 6;
-        edition.rows[k] = row_of(&table[at..end]);
+        rows[k] = row_of(&table[at..end]);
         k += 1;
     }
-    edition
+    Edition { rows }
 }
 
 fn bytes_of(row: Row) -> [u8; 6]

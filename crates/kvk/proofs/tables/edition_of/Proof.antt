@@ -13,10 +13,10 @@ use Rattle.kvk.proofs.tables.edition_of.Statement.{statement}
 use Rattle.kvk.proofs.tables.edition_of.Tie as tie
 
 abbrev Inv-loop : tie.InvT-loop
-Inv-loop table edition₀ k₀ edition k = (k ≤ 17) × (length (edition .rows) ≡ 17) × (take k (edition .rows) ≡ map rowOf (pieces 6 k table))
+Inv-loop table rows₀ k₀ rows k = (k ≤ 17) × (length rows ≡ 17) × (take k rows ≡ map rowOf (pieces 6 k table))
 
 abbrev μ-loop : tie.MeasureT-loop
-μ-loop table edition₀ k₀ edition k = 17 - k
+μ-loop table rows₀ k₀ rows k = 17 - k
 
 loop-holds : tie.Need-loop-holds Inv-loop μ-loop
 unfolding pieces
@@ -42,11 +42,11 @@ row-of-requires c κs =
     let h : c .before .before .loop .k * 6 + 6 ≤ length (c .before .before .before .before .args .table .now) = omega arith in
     part-length _ _ 6 h
 
-mul-t48 : tie.Need-mul-t48 Inv-loop μ-loop
-mul-t48 c = search needs
+mul-rows : tie.Need-mul-rows Inv-loop μ-loop
+mul-rows c = search needs
 
-element-set-from-edition : tie.Need-element-set-from-edition Inv-loop μ-loop
-element-set-from-edition c = search needs
+array-set-from-rows : tie.Need-array-set-from-rows Inv-loop μ-loop
+array-set-from-rows c = search needs
 
 add-k : tie.Need-add-k Inv-loop μ-loop
 add-k c = search needs
@@ -57,15 +57,15 @@ loop-less c = search needs
 loop-again : tie.Need-loop-again Inv-loop μ-loop
 loop-again c =
     let l = c .before .before .before .loop in
-    let h : l .k < length (l .edition .rows) = omega arith in
-    (search needs, simp length-set (omega arith), stored-more rowOf 6 _ (l .edition .rows) (l .k) (l .inv .2) h (c .row-of .ensures))
+    let h : l .k < length (l .rows) = omega arith in
+    (search needs, simp length-set (omega arith), stored-more rowOf 6 _ (l .rows) (l .k) (l .inv .2) h (c .row-of .ensures))
 
 returns : tie.Need-returns Inv-loop μ-loop
 unfolding editionOf
 returns c =
     let l = c .before .loop in
     let e : l .k ≡ 17 = omega arith in
-    ap (λ (rs : List Row). record { rows = rs }) (rw e at (stored-all rowOf 6 _ (l .edition .rows) (l .k) (l .inv .2) (omega arith)))
+    ap (λ (rs : List Row). record { rows = rs }) (rw e at (stored-all rowOf 6 _ (l .rows) (l .k) (l .inv .2) (omega arith)))
 
 pub edition-of-spec : {M : Type 1} → statement M
 edition-of-spec =
@@ -80,8 +80,8 @@ edition-of-spec =
     part-row-of-start
     part-row-of-end
     row-of-requires
-    mul-t48
-    element-set-from-edition
+    mul-rows
+    array-set-from-rows
     add-k
     loop-less
     loop-again

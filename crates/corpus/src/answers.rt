@@ -1,0 +1,79 @@
+// The parts of an answer, as they are written to standard output.
+use crate::cases;
+use libc::STDOUT_FILENO;
+ghost use mathlib.Core.Path.{_≡_};
+ghost use Prim.Native.Nat.{_<_, _≤_};
+ghost use lib.ListN.{length};
+
+fn hex_digit(n: u8) -> u8
+    requires { ⌜ n < 16 ⌝ }
+{
+    if n < 10 { b'0' + n } else { b'A' - 10 + n }
+}
+
+// Writes each byte as two capital hex digits.
+pub(crate) fn write_hex(bytes: &[u8]) {
+    let mut i = 0;
+    while i < bytes.len() {
+        let byte = bytes[i];
+        io::write_all(STDOUT_FILENO, &[hex_digit(byte / 16), hex_digit(byte % 16)]);
+        i += 1;
+    }
+}
+
+fn write_number(n: u64) {
+    io::write_all(STDOUT_FILENO, b" ");
+    io::print_decimal(STDOUT_FILENO, n);
+}
+
+// Number, place, tag, shortest and longest, each with a blank before it.
+pub(crate) fn write_answer(answer: u64) {
+    write_number(answer % 256);
+    write_number((answer >> 8) % 256);
+    io::write_all(STDOUT_FILENO, b" ");
+    write_hex(&[((answer >> 16) % 256) as u8]);
+    write_number((answer >> 24) % 256);
+    write_number((answer >> 32) % 256);
+}
+
+fn count_not_zero(bytes: &[u8]) -> u64
+    ensures { λ r. ⌜ r ≤ length (now (bytes .entry)) ⌝ }
+{
+    let mut count: u64 = 0;
+    let mut i = 0;
+    while i < bytes.len() {
+        if bytes[i] != 0 {
+            count += 1;
+        }
+        i += 1;
+    }
+    count
+}
+
+// Writes a slot's length and value, and answers how many bytes behind the value are not 0.
+fn write_slot(slot: &[u8]) -> u64
+    requires { ⌜ length (now slot) ≡ 29 ⌝ }
+    ensures { λ r. ⌜ r ≤ 28 ⌝ }
+{
+    let end = 1 + cases::value_size(slot);
+    io::write_all(STDOUT_FILENO, b".");
+    write_hex(&slot[..end]);
+    count_not_zero(&slot[end..])
+}
+
+// Writes a content, and how many bytes behind its values are not 0.
+pub(crate) fn write_content(content: &[u8])
+    requires { ⌜ length (now content) ≡ 478 ⌝ }
+{
+    io::write_all(STDOUT_FILENO, b" ");
+    write_hex(&content[..14]);
+    let mut behind: u64 = 0;
+    let mut k: usize = 0;
+    while k < 16 {
+        let at = 14 + k * 29;
+        let end = at + 29;
+        behind += write_slot(&content[at..end]);
+        k += 1;
+    }
+    write_number(behind);
+}

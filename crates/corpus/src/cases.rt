@@ -1,0 +1,109 @@
+// The parts of a case, as they are read from standard input. An answer false says that the part is cut off or malformed.
+use libc::STDIN_FILENO;
+ghost use mathlib.Core.Path.{_≡_};
+ghost use Prim.Native.Nat.{_≤_};
+ghost use lib.ListN.{length};
+
+pub(crate) const LONGEST: usize = 600;
+
+// Fills all of a room from the input.
+pub(crate) fn get(room: &mut [u8]) -> bool {
+    io::read_full(STDIN_FILENO, room) == room.len()
+}
+
+pub(crate) fn fill(room: &mut [u8], byte: u8) {
+    let mut i = 0;
+    while i < room.len() {
+        room[i] = byte;
+        i += 1;
+    }
+}
+
+pub(crate) fn is_filled(room: &[u8], byte: u8) -> bool {
+    let mut i = 0;
+    while i < room.len() {
+        if room[i] != byte {
+            return false;
+        }
+        i += 1;
+    }
+    true
+}
+
+// The number that two bytes write, high byte first.
+fn number_of(bytes: &[u8]) -> usize
+    requires { ⌜ length (now bytes) ≡ 2 ⌝ }
+{
+    bytes[0] as usize * 256 + bytes[1] as usize
+}
+
+// A length, or one more than LONGEST where there is none.
+pub(crate) fn get_length() -> usize {
+    let mut bytes = [0u8; 2];
+    if !get(&mut bytes) {
+        return LONGEST + 1;
+    }
+    number_of(&bytes)
+}
+
+// The table of a shipped edition by its number, or after a 0 one that is written out.
+pub(crate) fn get_table(table: &mut [u8]) -> bool {
+    let mut which = [0u8; 1];
+    if !get(&mut which) {
+        return false;
+    }
+    match which[0] {
+        0 => get(table),
+        1 => kvk::kvk_edition(1, table) == 0,
+        2 => kvk::kvk_edition(2, table) == 0,
+        _ => false,
+    }
+}
+
+// How many bytes of a slot are the value's, by its first byte.
+pub(crate) fn value_size(slot: &[u8]) -> usize
+    requires { ⌜ length (now slot) ≡ 29 ⌝ }
+    ensures { λ r. ⌜ r ≤ 28 ⌝ }
+{
+    if slot[0] < 28 { slot[0] as usize } else { 28 }
+}
+
+// A length and its value, and one byte that stands for all behind it.
+fn get_slot(slot: &mut [u8]) -> bool
+    requires { ⌜ length (now slot) ≡ 29 ⌝ }
+{
+    if !get(&mut slot[..1]) {
+        return false;
+    }
+    let end = 1 + value_size(slot);
+    if !get(&mut slot[1..end]) {
+        return false;
+    }
+    if end == 29 {
+        return true;
+    }
+    let mut behind = [0u8; 1];
+    if !get(&mut behind) {
+        return false;
+    }
+    fill(&mut slot[end..], behind[0]);
+    true
+}
+
+pub(crate) fn get_content(content: &mut [u8]) -> bool
+    requires { ⌜ length (now content) ≡ 478 ⌝ }
+{
+    if !get(&mut content[..14]) {
+        return false;
+    }
+    let mut k: usize = 0;
+    while k < 16 {
+        let at = 14 + k * 29;
+        let end = at + 29;
+        if !get_slot(&mut content[at..end]) {
+            return false;
+        }
+        k += 1;
+    }
+    true
+}

@@ -1,0 +1,5 @@
+-- The laws of the definitions.
+pub mod Stores
+pub mod Words
+pub mod Lines
+pub mod Shown

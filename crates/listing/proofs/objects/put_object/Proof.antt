@@ -1,0 +1,84 @@
+-- `listing::objects::put_object` meets its contract: nothing, or tag, blank and value in one run. Assumes nothing.
+use mathlib.Core.Path.{_≡_, sym}
+use native.Mathlib.Omega.{arith}
+use lib.ListN.{length, take}
+use lib.Seq.{length-take-le}
+use Rattle.listing.specs.Listing.{hex}
+use Rattle.listing.specs.Rooms.{shown}
+use Rattle.listing.proofs.Stores.{put-then, put-same}
+use Rattle.listing.proofs.Words.{line-none, line-some, line-short, take-part}
+use borrow.Author.Needs.{needs}
+use Rattle.listing.proofs.objects.put_object.Statement.{statement}
+use Rattle.listing.proofs.objects.put_object.Tie as tie
+
+shown-length-requires : tie.Need-shown-length-requires
+shown-length-requires c κs = search needs
+
+held : (c : tie.Start) → length (c .args .item .bytes) ≡ 28
+held c = search needs
+
+returns : tie.Need-returns
+returns c =
+    let size = c .before in
+    let s = size .before .before in
+    let e = line-none (s .args .tag) (shown (s .args .item)) (omega (arith, size .shown-length .ensures .0, c .if1 .taken)) in
+    (record { stored = rw e; place = rw e (omega arith) }, omega arith)
+
+put-hex-requires : tie.Need-put-hex-requires
+put-hex-requires c κs = search needs
+
+put-byte-requires : tie.Need-put-byte-requires
+unfolding hex
+put-byte-requires c κs = omega (arith, c .before .before .before .put-hex .ensures .place)
+
+array-share-prefix-bytes : tie.Need-array-share-prefix-bytes
+array-share-prefix-bytes c =
+    let size = c .before .before .before .before .before .before .before .before .before .before .before in
+    omega (arith, size .shown-length .ensures .1, held (size .before .before))
+
+slice-aggregate-put-line : tie.Need-slice-aggregate-put-line
+slice-aggregate-put-line c =
+    let size = c .before .before .before .before .before .before .before .before .before .before .before .before in
+    sym (length-take-le _ _ (omega (arith, size .shown-length .ensures .1, held (size .before .before))))
+
+put-line-requires : tie.Need-put-line-requires
+unfolding hex
+put-line-requires c κs =
+    let blank = c .before .before .before .before .before in
+    let tag = blank .before .before .before .before in
+    let size = tag .before .before .before in
+    let s = size .before .before in
+    let t = length-take-le (size .shown-length .result) (s .args .item .bytes) (omega (arith, size .shown-length .ensures .1, held s)) in
+    omega (arith, tag .put-hex .ensures .place, blank .put-byte .ensures .place, size .shown-length .ensures .1)
+
+same-length : tie.Need-same-length
+same-length c = search needs
+
+returns-2 : tie.Need-returns-2
+returns-2 c =
+    let line = c .before .before in
+    let blank = line .before .before .before .before .before .before in
+    let tag = blank .before .before .before .before in
+    let some = tag .before .before in
+    let size = some .before in
+    let a = size .before .before .args in
+    let v = shown (a .item) in
+    let e : take (size .shown-length .result) (a .item .bytes) ≡ v = rw (size .shown-length .ensures .0) (take-part (a .item .length) (a .item .bytes)) in
+    let n = size .shown-length .ensures in
+    let whole = line-some (a .tag) v (λ z. some .if1 .left (omega arith)) in
+    let put = put-same (sym whole) (put-then (tag .put-hex .ensures) (put-then (blank .put-byte .ensures) (rw e at (line .put-line .ensures)))) in
+    (put, omega (arith, put .place, line-short (a .tag) v, n .0, n .1))
+
+pub put-object-spec : {M : Type 1} → statement M
+put-object-spec =
+    tie.close
+    (tie.spec
+    shown-length-requires
+    returns
+    put-hex-requires
+    put-byte-requires
+    array-share-prefix-bytes
+    slice-aggregate-put-line
+    put-line-requires
+    same-length
+    returns-2)

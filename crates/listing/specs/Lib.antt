@@ -1,0 +1,3 @@
+-- The text of a reading.
+pub mod Listing
+pub mod Rooms
