@@ -1,30 +1,30 @@
 -- The bytes of a layout are below 256. Assumes nothing.
 use Prim.Native.Nat.{ℕ, zero, suc, _+_, _-_, _≤_, _<_}
 use native.Mathlib.Omega.{arith}
-use mathlib.Core.Path.{_≡_, refl, sym, ap, _∙_}
-use mathlib.Core.Bool.{Bool, true, false, cond, not, _&&_, _||_}
+use mathlib.Core.Path.{_≡_, refl}
+use mathlib.Core.Bool.{Bool, true, false, cond, _&&_, _||_}
 use mathlib.Core.List.{List, [], _∷_, _++_}
 use lib.ListN.{length, take, drop, getD, replicate}
 use lib.Dec.{leb, ltb, eqb, lit<, lit≤}
-use borrow.Author.Tests.{eqb-true, leb-true, leb-false, ltb-true, ne-eqb}
+use borrow.Author.Tests.{eqb-true, leb-true, ltb-true, ne-eqb}
 use Rattle.edition.specs.declared.Rule.{Rule}
 use Rattle.edition.specs.declared.Rule.the-variants.{Digits, Text, Lead, Code, Birth, Expiry, Raw}
 use Rattle.edition.specs.declared.Row.{Row}
 use Rattle.edition.specs.declared.Edition.{Edition}
 use Rattle.edition.specs.declared.Formed.the-variants.{Well}
 use Rattle.edition.specs.declared.values.Verdict.the-variants.{Takes}
-use Rattle.edition.specs.Lists.{among, leading}
-use Rattle.edition.specs.Values.{within, isDigit, isText, byClass, takes, judged}
+use Rattle.edition.specs.Lists.{among}
+use Rattle.edition.specs.Values.{within, isDigit, isText, takes, judged}
 use Rattle.edition.specs.Rows.{tags, setFormed, byRule, rowFormed, formedFrom}
 use Rattle.edition.proofs.Lists.{true-false, and-left, and-right, leading-before}
 use Rattle.edition.proofs.Verdicts.{taken-means}
 use Rattle.edition.proofs.Rows.{formed-head, row-within, permits-most}
 use Rattle.card.specs.Content.{Content}
 use Rattle.card.specs.Fields.{lengthField}
-use Rattle.card.specs.Layout.{identifier, head, object, body, xorAll, templateLength, summed, template, spaces, lasts, filler, objectTags, objectsOf, layout}
-use Rattle.card.specs.Rules.{Entry, entries, RowMet, AllMet, none-left, one-more, firstAllowed, lastAllowed, Allowed}
+use Rattle.card.specs.Layout.{identifier, head, object, body, templateLength, summed, spaces, lasts, filler, objectTags, objectsOf, layout}
+use Rattle.card.specs.Rules.{entries, RowMet, AllMet, none-left, one-more, firstAllowed, lastAllowed, Allowed}
 use Rattle.card.proofs.Xor.{xor-below}
-use Rattle.card.proofs.Layouts.{length-summed, length-field, layout-parts}
+use Rattle.card.proofs.Layouts.{layout-parts}
 
 pub data Octets : List ℕ → Type 0 where
   no-octet : Octets []

@@ -1,10 +1,10 @@
 -- A record of a content holds that content. Assumes nothing.
 use Prim.Native.Nat.{ℕ, suc, _-_, _≤_}
 use native.Mathlib.Omega.{arith}
-use mathlib.Core.Path.{_≡_, refl, ap, _∙_}
-use mathlib.Core.Bool.{true, false}
-use mathlib.Core.List.{List, [], _∷_, _++_, append-assoc, map}
-use lib.ListN.{length, take, replicate}
+use mathlib.Core.Path.{_≡_, refl}
+use mathlib.Core.Bool.{true}
+use mathlib.Core.List.{List, [], _∷_, append-assoc, map}
+use lib.ListN.{length}
 use lib.Dec.{eqb}
 use lib.Seq.{take-append-seam}
 use Rattle.edition.specs.declared.Row.{Row}
@@ -14,7 +14,7 @@ use Rattle.edition.specs.Rows.{rowFormed, formedFrom}
 use Rattle.edition.proofs.Rows.{formed-head, row-within, permits-most}
 use Rattle.card.specs.Content.{Content, valueOf, contentOf, objectOf, recordOf}
 use Rattle.card.specs.Layout.{objectTags}
-use Rattle.card.specs.Rules.{Entry, entries, RowMet, AllMet, none-left, one-more, Allowed}
+use Rattle.card.specs.Rules.{entries, RowMet, AllMet, none-left, one-more, Allowed}
 
 -- values that fit their slots
 pub data Short : List (List ℕ) → Type 0 where

@@ -1,6 +1,6 @@
 -- The length of a template or a filler: one byte up to 127; from 128 on, '81' and one byte.
 use Prim.Native.Nat.{ℕ}
-use mathlib.Core.Bool.{Bool, true, false, cond}
+use mathlib.Core.Bool.{cond}
 use mathlib.Core.List.{List, [], _∷_}
 use lib.Dec.{leb, eqb}
 use Rattle.card.specs.declared.fields.LengthField.{LengthField}

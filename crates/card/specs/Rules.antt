@@ -1,7 +1,7 @@
 -- What a content must be, and when an image meets every rule.
 use Prim.Native.Nat.{ℕ, _+_, _≤_}
 use mathlib.Core.Path.{_≡_}
-use mathlib.Core.Bool.{Bool, true, false, cond, not, _&&_, _||_}
+use mathlib.Core.Bool.{Bool, true, false, cond, _&&_, _||_}
 use mathlib.Core.List.{List, [], _∷_}
 use lib.Dec.{leb, eqb}
 use lib.ListN.{length, drop, getD}
@@ -13,7 +13,7 @@ use Rattle.edition.specs.declared.values.Verdict.the-variants.{Takes, Outside, 
 use Rattle.edition.specs.Lists.{leading}
 use Rattle.edition.specs.Sets.{permitted}
 use Rattle.edition.specs.Values.{judged}
-use Rattle.edition.specs.Rows.{tags, formedFrom}
+use Rattle.edition.specs.Rows.{formedFrom}
 use Rattle.card.specs.Content.{Content}
 use Rattle.card.specs.Layout.{objectTags, objectsOf, templateLength, layout}
 

@@ -6,7 +6,7 @@ use mathlib.Core.Bool.{Bool, true, false, cond, _&&_}
 use mathlib.Core.List.{List, [], _∷_, _++_}
 use lib.ListN.{length, drop, getD}
 use lib.Seq.{drop-drop, drop-cons, drop-append-add, drop-append-seam, getD-append-add}
-use lib.Dec.{leb, eqb, lit≤}
+use lib.Dec.{leb, eqb}
 use borrow.Author.Tests.{eqb-true, le-leb, lt-leb, leb-true, leb-false}
 use Rattle.edition.proofs.Lists.{and-left, and-right}
 use Rattle.card.specs.declared.fields.LengthField.the-variants.{One, Two, Other}

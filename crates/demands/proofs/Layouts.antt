@@ -2,23 +2,19 @@
 use Prim.Native.Nat.{ℕ, suc, _+_, _-_, _≤_, zero-le, suc-le-suc}
 use native.Mathlib.Omega.{arith}
 use native.Mathlib.Nat.{lt-of-lt-of-le}
-use mathlib.Core.Path.{_≡_, refl, sym, ap, _∙_, subst}
-use mathlib.Core.Bool.{Bool, true, false}
+use mathlib.Core.Path.{_≡_, refl, ap, _∙_, subst}
 use mathlib.Core.List.{List, [], _∷_, _++_, append-assoc}
-use lib.ListN.{length, take, drop, getD, replicate, length-append, length-drop, length-replicate, take-append-drop, drop-of-length-le}
+use lib.ListN.{length, take, drop, getD, length-append, length-drop, take-append-drop, drop-of-length-le}
 use lib.Seq.{take-at, drop-cons, getD-append-add, length-take-le}
 use lib.Pow.{pow-mono}
-use lib.Dec.{leb, eqb, lit≤}
-use borrow.Author.Tests.{eqb-true, eqb-false, leb-true, leb-false, le-leb, lt-leb, ne-eqb}
+use lib.Dec.{lit≤}
 use Rattle.edition.specs.Lists.{leading}
 use Rattle.edition.specs.Sets.{permitted}
 use Rattle.edition.specs.Rows.{tags}
 use Rattle.edition.specs.Values.{holds, judged}
 use Rattle.edition.proofs.Lists.{true-false}
 use Rattle.edition.proofs.Sets.{beyond}
-use Rattle.card.specs.Content.{Content}
-use Rattle.card.specs.Fields.{lengthField}
-use Rattle.card.specs.Layout.{identifier, head, body, xorAll, templateLength, summed, template, spaces, lasts, filler, objectTags, objectsOf, layout}
+use Rattle.card.specs.Layout.{identifier, head, body, objectTags}
 use Rattle.card.specs.Rules.{Entry, RowMet, AllMet, none-left, one-more}
 use Rattle.reader.specs.Reading.{freeOf}
 use Rattle.demands.proofs.Tables.{eight, withEight}

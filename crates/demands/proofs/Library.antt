@@ -1,9 +1,8 @@
 -- The library's reader and writer meet the three demands. Assumes nothing.
 use Prim.Native.Nat.{ℕ}
-use native.Mathlib.Omega.{arith}
 use mathlib.Core.Path.{_≡_, refl, sym, ap, _∙_}
-use mathlib.Core.Logic.{_⊎_, inl, inr, _↔_}
-use mathlib.Core.Bool.{Bool, true, false, cond, or-true}
+use mathlib.Core.Logic.{_⊎_, inl, inr}
+use mathlib.Core.Bool.{Bool, true, false, cond}
 use mathlib.Core.List.{List, [], _∷_}
 use lib.Dec.{eqb}
 use lib.ListN.{length, length-map}
@@ -22,8 +21,8 @@ use Rattle.reader.specs.declared.Reading.{Reading}
 use Rattle.reader.specs.Reading.{Answer, accepted, refused, answer, answerOf, reading, startOf}
 use Rattle.writer.specs.Writing.{refusal, refusalOf, bufferAfter}
 use Rattle.demands.specs.Nested.{Nested, FirstUnmet}
-use Rattle.demands.specs.Demands.{Accepts, Refuses, LentEdition, LentRecord, Written, readingNumbers, writingNumbers, Demand1, Demand2, Demand3, Demands, libraryReader, libraryWriter}
-use Rattle.demands.proofs.Accepts.{reads, one-content}
+use Rattle.demands.specs.Demands.{Accepts, Refuses, LentEdition, LentRecord, readingNumbers, Demand1, Demand2, Demand3, Demands, libraryReader, libraryWriter}
+use Rattle.demands.proofs.Accepts.{reads}
 use Rattle.demands.proofs.NestedLaws.{inner-reads, outer-reads, numbered}
 use Rattle.demands.proofs.Writes.{allowed-written, write-after-read, read-buffer-after, buffer-after-read, outer-writes}
 use Rattle.demands.proofs.Numbers.{every-reading-number, every-writing-number, zero-is-none}

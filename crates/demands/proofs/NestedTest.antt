@@ -16,7 +16,7 @@ use Rattle.edition.specs.declared.Formed.the-variants.{Well}
 use Rattle.edition.specs.declared.values.Verdict.the-variants.{Takes}
 use Rattle.edition.specs.Sets.{permitted}
 use Rattle.edition.specs.Values.{isDigit, isText, byClass, takes, isLead, isCode, isBirth, isExpiry, two, bySense, holds, judged}
-use Rattle.edition.specs.Rows.{setFormed, rowFormed, formedFrom}
+use Rattle.edition.specs.Rows.{setFormed, formedFrom}
 use Rattle.edition.specs.Tables.{terminal, issue}
 use Rattle.edition.proofs.Lists.{true-false, and-left, and-right, leading-wider}
 use Rattle.edition.proofs.Sets.{beyond}

@@ -14,14 +14,13 @@ use Rattle.edition.specs.declared.values.Verdict.the-variants.{Takes, Outside, 
 use Rattle.edition.specs.Lists.{among}
 use Rattle.edition.specs.Sets.{permitted}
 use Rattle.edition.specs.Values.{judged}
-use Rattle.edition.specs.Rows.{tags, formedFrom}
 use Rattle.card.specs.declared.Refusal.{Refusal}
 use Rattle.card.specs.Content.{Content}
-use Rattle.card.specs.Refusals.{refuse, refuseLength, none, gate}
-use Rattle.card.specs.Rules.{Entry, entries, objectRows, Fault, met, missing, length-out, byte-out, value-out, fault}
+use Rattle.card.specs.Refusals.{refuse, none, gate}
+use Rattle.card.specs.Rules.{Entry, objectRows, Fault, met, missing, length-out, byte-out, value-out, fault}
 use Rattle.reader.specs.Walk.{Seen, absent, there, wrong, weighed, objectAt, passed, look, Walked, through, stopped, push, onward, tagsOf, walk}
 use Rattle.reader.specs.Reading as reading
-use Rattle.reader.specs.Reading.{Answer, accepted, refused, behind, startOf, templateOf, answer}
+use Rattle.reader.specs.Reading.{Answer, accepted, refused, behind, answer}
 use Rattle.writer.specs.Writing as writing
 use Rattle.writer.specs.Writing.{rowRefusal, rowsRefusal, refusal}
 use Rattle.demands.specs.Demands.{readingNumbers, writingNumbers}

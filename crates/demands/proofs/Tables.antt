@@ -1,22 +1,18 @@
 -- The rows of a well-formed edition: sixteen, and that of the checksum behind them. Assumes nothing.
-use Prim.Native.Nat.{ℕ, suc, _+_, _/_, _%_}
+use Prim.Native.Nat.{ℕ, suc, _+_}
 use native.Mathlib.Omega.{arith}
 use mathlib.Core.Path.{_≡_, refl, ap, _∙_, subst}
-use mathlib.Core.Bool.{Bool, true, false, cond, _&&_}
+use mathlib.Core.Bool.{true}
 use mathlib.Core.List.{List, [], _∷_, _++_}
 use lib.ListN.{length, length-map}
-use lib.Dec.{eqb, ltb}
-use borrow.Author.Tests.{eqb-true, ne-eqb}
-use Rattle.edition.specs.declared.Rule.{Rule}
-use Rattle.edition.specs.declared.Rule.the-variants.{Digits, Text, Lead, Code, Birth, Expiry, Raw}
+use Rattle.edition.specs.declared.Rule.the-variants.{Raw}
 use Rattle.edition.specs.declared.Row.{Row}
 use Rattle.edition.specs.declared.Edition.{Edition}
-use Rattle.edition.specs.declared.Formed.{Formed}
-use Rattle.edition.specs.declared.Formed.the-variants.{Well, Bad}
+use Rattle.edition.specs.declared.Formed.the-variants.{Well}
 use Rattle.edition.specs.Lists.{distinct}
 use Rattle.edition.specs.Sets.{permitted}
-use Rattle.edition.specs.Rows.{tags, setFormed, byRule, rowFormed, formedFrom}
-use Rattle.edition.proofs.Lists.{true-false, and-left, and-right}
+use Rattle.edition.specs.Rows.{tags, setFormed, rowFormed, formedFrom}
+use Rattle.edition.proofs.Lists.{and-left}
 use Rattle.edition.proofs.Rows.{tags-distinct, formed-head, last-formed, set-within, permits-not-0}
 use Rattle.card.specs.Layout.{body, objectTags}
 use Rattle.card.specs.Rules.{Entry, entries, objectRows}

@@ -3,9 +3,8 @@ use Prim.Native.Nat.{ℕ}
 use native.Mathlib.Omega.{arith}
 use mathlib.Core.Path.{_≡_, refl, sym, _∙_}
 use mathlib.Core.Bool.{Bool, true, false, _&&_}
-use mathlib.Core.List.{List, [], _∷_, map, append-assoc}
+use mathlib.Core.List.{List, [], _∷_}
 use lib.ListN.{length, length-map}
-use lib.Seq.{take-append-seam}
 use lib.Dec.{leb}
 use borrow.Author.Tests.{eqb-true, leb-true, le-leb}
 use Rattle.edition.specs.declared.Edition.{Edition}
@@ -14,7 +13,7 @@ use Rattle.edition.specs.declared.Formed.the-variants.{Well, Bad}
 use Rattle.edition.proofs.Lists.{and-left, and-right}
 use Rattle.card.specs.declared.Record.{Record}
 use Rattle.card.specs.declared.Refusal.{Refusal}
-use Rattle.card.specs.Content.{Content, valueOf, contentOf, objectOf, recordOf}
+use Rattle.card.specs.Content.{Content, valueOf, contentOf, recordOf}
 use Rattle.card.specs.Refusals.{none, gate}
 use Rattle.card.specs.Layout.{templateLength, objectsOf, layout}
 use Rattle.card.specs.Rules.{Entry, RowMet, AllMet, none-left, one-more, Fault, met, missing, length-out, byte-out, value-out, fault, Allowed}

@@ -10,13 +10,13 @@ use Rattle.edition.specs.Tables.{terminal}
 use Rattle.edition.specs.Rows.{tags}
 use Rattle.card.specs.declared.Object.{Object}
 use Rattle.card.specs.declared.Record.{Record}
-use Rattle.card.specs.Content.{Content, contentOf, objectOf, recordOf}
+use Rattle.card.specs.Content.{objectOf, recordOf}
 use Rattle.card.specs.Fields.{lengthField}
 use Rattle.card.specs.Layout.{identifier, head, body, xorAll, summed, template, spaces, lasts, filler, layout}
 use Rattle.card.specs.Rules.{Meets}
 use Rattle.reader.specs.Reading.{Answer, accepted, answer, startOf}
-use Rattle.demands.specs.Marked.{valuesS, cardOf, fullValues, withObject, Case, cases, found}
-use Rattle.demands.specs.Demands.{Reader, Writer, Written, LentEdition, Accepts, Refuses, Demand2}
+use Rattle.demands.specs.Marked.{valuesS, cardOf, withObject, Case, cases, found}
+use Rattle.demands.specs.Demands.{Reader, Writer, Written, LentEdition, Accepts, Demand2}
 use Rattle.demands.specs.Wrong.{RefusesAll, OneRecord, firstObject, FirstOnly, Idle}
 use Rattle.demands.proofs.Worked.{marked}
 use Rattle.demands.proofs.Accepts.{reads}

@@ -1,12 +1,12 @@
 -- The ends of a set of lengths, and what lies beyond them. Assumes nothing.
-use mathlib.Core.Path.{_≡_, refl, sym, ap, _∙_}
-use mathlib.Core.Bool.{Bool, true, false}
-use Prim.Native.Nat.{ℕ, zero, suc, _+_, _-_, _*_, _/_, _%_, _^_, _≤_, _<_}
+use mathlib.Core.Path.{_≡_, refl, sym, ap}
+use mathlib.Core.Bool.{true, false}
+use Prim.Native.Nat.{ℕ, zero, suc, _-_, _/_, _%_, _^_, _≤_, _<_}
 use native.Mathlib.Nat.{pow-suc, pow-succ', div-div-eq-div-mul, div-one, div-eq-of-lt, div-eq-of-lt-le, mod-lt, le-of-suc-le-suc, not-suc-le-zero, zero-lt-suc, lt-of-lt-of-le}
 use native.Mathlib.Omega.{arith}
 use borrow.Author.Tests.{eq-eqb}
 use lib.Pow.{pow-mono}
-use lib.Count.{trailingZeros, leadingZeros, leading-top, leading-le, trailing-le, under}
+use lib.Count.{trailingZeros, leading-top, trailing-le, under}
 use Rattle.edition.specs.Sets.{permitted, shortestOf, longestOf}
 
 pub record Least (set r : ℕ) : Type 0 where

@@ -1,11 +1,11 @@
 -- What the verdicts mean. Assumes nothing.
 use Prim.Native.Nat.{ℕ, zero, suc, _≤_, _<_}
 use native.Mathlib.Omega.{arith}
-use borrow.Author.Tests.{ltb-true, ltb-false, lt-ltb, le-ltb}
-use mathlib.Core.Path.{_≡_, refl, sym, ap, _∙_}
-use mathlib.Core.Bool.{Bool, true, false, cond, _||_, _&&_}
-use mathlib.Core.List.{List, [], _∷_}
-use lib.Dec.{eqb, leb, ltb}
+use borrow.Author.Tests.{ltb-true, ltb-false, le-ltb}
+use mathlib.Core.Path.{_≡_, refl, ap}
+use mathlib.Core.Bool.{Bool, true, false, cond}
+use mathlib.Core.List.{List}
+use lib.Dec.{ltb}
 use lib.ListN.{length, getD}
 use Rattle.edition.specs.declared.Rule.{Rule}
 use Rattle.edition.specs.declared.values.Verdict.{Verdict}
@@ -13,8 +13,8 @@ use Rattle.edition.specs.declared.values.Verdict.the-variants.{Takes, Ou
 use Rattle.edition.specs.Lists.{among, leading}
 use Rattle.edition.specs.declared.Rule.the-variants.{Digits, Text, Lead, Code, Birth, Expiry, Raw}
 use Rattle.edition.specs.Characters.{charactersOf, hasByte}
-use Rattle.edition.specs.Values.{within, isDigit, isText, takes, holds, judged, Told, told}
-use Rattle.edition.proofs.Lists.{alikeBelow, alike-below, leading-before, leading-at, leading-most, leading-alike}
+use Rattle.edition.specs.Values.{isDigit, isText, takes, holds, judged, Told, told, bySense}
+use Rattle.edition.proofs.Lists.{true-false, alike-below, leading-before, leading-at, leading-alike}
 
 -- no two verdicts are told alike
 pub told-apart : (a b : Verdict) → told a ≡ told b → a ≡ b
@@ -116,3 +116,14 @@ taken-means rule v e = go (judged rule v) (view rule v) e
 pub means-taken : (rule : Rule) (v : List ℕ) → length v ≤ leading (takes rule) v → holds rule v ≡ true → judged rule v ≡ Takes
 unfolding judged
 means-taken rule v a b = rw (le-ltb (leading (takes rule) v) (length v) a, b)
+
+-- a rule that asks for nothing beyond its characters holds of every value
+pub plain-holds : (rule : Rule) (v : List ℕ) → bySense rule false false false false ≡ true → holds rule v ≡ true
+unfolding holds
+plain-holds Digits v h = refl
+plain-holds Text v h = refl
+plain-holds Lead v h = absurd (true-false h refl)
+plain-holds Code v h = absurd (true-false h refl)
+plain-holds Birth v h = absurd (true-false h refl)
+plain-holds Expiry v h = absurd (true-false h refl)
+plain-holds Raw v h = refl

@@ -1,6 +1,6 @@
 -- The two shipped editions, as the two columns of the document's table.
 use Prim.Native.Nat.{ℕ, _+_}
-use mathlib.Core.Bool.{Bool, true, false}
+use mathlib.Core.Bool.{true, false}
 use mathlib.Core.List.{List, [], _∷_, map}
 use Rattle.edition.specs.declared.Rule.{Rule}
 use Rattle.edition.specs.declared.Rule.the-variants.{Digits, Text, Lead, Code, Birth, Expiry, Raw}

@@ -1,6 +1,7 @@
 // What a rule asks of a value.
 use crate::Rule;
 ghost use mathlib.Core.Path.{_≡_};
+ghost use mathlib.Core.Bool.{false};
 ghost use lib.ListN.{getD};
 ghost use Rattle.edition.specs.Lists.{leading};
 ghost use Rattle.edition.specs.Characters.{charactersOf, hasByte};
@@ -139,6 +140,13 @@ fn by_sense(rule: Rule, lead: bool, code: bool, birth: bool, expiry: bool) -> bo
     }
 }
 
+// Whether a rule asks for nothing beyond its characters.
+fn is_plain(rule: Rule) -> bool
+    ensures { λ r. ⌜ r ≡ bySense rule false false false false ⌝ }
+{
+    by_sense(rule, false, false, false, false)
+}
+
 // The byte at i, and 0 past the end.
 fn byte_at(v: &[u8], i: usize) -> u8
     ensures { λ r. ⌜ r ≡ getD (now (v .entry)) i 0 ⌝ }
@@ -183,6 +191,9 @@ pub fn judge(rule: Rule, v: &[u8]) -> Verdict
     let n = count_taken(rule, v);
     if n < v.len() {
         return Verdict::Outside(n);
+    }
+    if is_plain(rule) {
+        return Verdict::Takes;
     }
     if holds_for(rule, v) {
         Verdict::Takes

@@ -1,6 +1,6 @@
 -- The text of a reading: `ACCEPTED` and a line for each object that is present, or one line `REFUSED number place TAG shortest longest`.
 use Prim.Native.Nat.{ℕ, _+_, _/_, _%_}
-use mathlib.Core.Bool.{Bool, true, false, cond}
+use mathlib.Core.Bool.{cond}
 use mathlib.Core.List.{List, [], _∷_, _++_}
 use lib.Dec.{ltb, eqb}
 use Rattle.card.specs.declared.Refusal.{Refusal}

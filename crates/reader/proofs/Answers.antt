@@ -1,11 +1,10 @@
 -- The answer by its steps: the refusals of the checks, in their order, and else the content at the places of the table. Assumes nothing.
-use Prim.Native.Nat.{ℕ, suc, _+_, _-_, _≤_, _<_}
-use native.Mathlib.Nat.{add-zero}
+use Prim.Native.Nat.{ℕ, suc, _+_, _-_, _≤_}
 use native.Mathlib.Omega.{arith}
 use borrow.Author.Tests.{eqb-true, eqb-false, eq-eqb, ne-eqb, leb-true}
 use mathlib.Core.Path.{_≡_, refl, sym, ap, _∙_}
 use mathlib.Core.Bool.{Bool, true, false, cond, _&&_}
-use mathlib.Core.List.{List, [], _∷_, map}
+use mathlib.Core.List.{List, [], _∷_}
 use lib.Dec.{eqb, leb}
 use lib.ListN.{length, getD, take, drop, length-take, length-drop}
 use lib.Seq.{getD-take, getD-drop}
@@ -17,14 +16,14 @@ use Rattle.edition.specs.Rows.{tags, formedFrom}
 use Rattle.edition.proofs.Lists.{and-left, and-right}
 use Rattle.card.specs.declared.Refusal.{Refusal}
 use Rattle.card.specs.declared.fields.LengthField.{LengthField}
-use Rattle.card.specs.declared.fields.LengthField.the-variants.{One, Two, Other, Cut}
+use Rattle.card.specs.declared.fields.LengthField.the-variants.{One, Other}
 use Rattle.card.specs.Refusals.{refuse, none, gate}
 use Rattle.card.specs.Fields.{lengthAt, secondByte, told}
 use Rattle.card.specs.Layout.{xorAll}
 use Rattle.card.specs.Rules.{entries, firstAllowed, lastAllowed}
 use Rattle.reader.specs.declared.objects.Listing.{Listing}
-use Rattle.reader.specs.Walk.{Walked, through, stopped, walk}
-use Rattle.reader.specs.Objects.{valueAt, valuesAt, refusalOf, refusalAt, walked}
+use Rattle.reader.specs.Walk.{through, stopped, walk}
+use Rattle.reader.specs.Objects.{valuesAt, refusalOf, refusalAt, walked}
 use Rattle.reader.specs.Reading.{Answer, accepted, refused, orBad, headEnd, fieldWrong, fieldOf, startOf, endOf, tailEnd, isEmpty, contentAt, behind, templateOf, answer}
 use Rattle.reader.specs.Steps.{inputRefusal, badRow, frontRefusal, groupAt, namesListed, townListed, groupsRefusal, tailRefusal, Inside, Framed, orElse, listingRefusal, answered, imageAnswer}
 use Rattle.reader.proofs.Tables.{value-at}

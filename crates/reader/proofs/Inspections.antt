@@ -1,10 +1,9 @@
 -- What an inspection says of the answer. Assumes nothing.
-use Prim.Native.Nat.{ℕ, _+_, _≤_, _<_}
+use Prim.Native.Nat.{ℕ, _≤_}
 use native.Mathlib.Omega.{arith}
-use mathlib.Core.Path.{_≡_, refl, sym, ap, _∙_}
-use mathlib.Core.Bool.{Bool, true, false}
+use mathlib.Core.Path.{_≡_, sym, ap, _∙_}
 use mathlib.Core.List.{List}
-use lib.ListN.{length, getD, take, drop, replicate}
+use lib.ListN.{length, take, replicate}
 use Rattle.edition.specs.declared.Row.{Row}
 use Rattle.edition.specs.declared.Formed.the-variants.{Well}
 use Rattle.edition.specs.Rows.{tags, formedFrom}
@@ -65,8 +64,8 @@ module _ (s : List ℕ) (span : Span) (long : length s ≡ 256) (h : Fronted s s
   span-ordered = rw (h .start, h .end) (ordered s long right)
 
   module _ (rows : List Row) (seventeen : length rows ≡ 17) (formed : formedFrom 0 rows ≡ Well)
-      (l : Listing) (is : l ≡ listFrom s (span .end) 0 rows false (span .start) (replicate 17 0) (replicate 17 0)) where
-    listed : l ≡ listFrom s (endOf s) 0 rows false (startOf s) (replicate 17 0) (replicate 17 0)
+      (l : Listing) (is : l ≡ listFrom s (span .end) 0 rows (span .start) (replicate 17 0) (replicate 17 0)) where
+    listed : l ≡ listFrom s (endOf s) 0 rows (startOf s) (replicate 17 0) (replicate 17 0)
     listed = rw (h .start, h .end) at is
 
     laid-here : Laid s (startOf s) (endOf s) l
@@ -83,7 +82,7 @@ module _ (s : List ℕ) (span : Span) (long : length s ≡ 256) (h : Fronted s s
     pub listing-inspected : (x : Refusal) → x ≡ listingRefusal s rows l → Inspected (imageAnswer rows s) s (record { refusal = x; starts = l .starts; lengths = l .lengths })
     listing-inspected x e =
         let f = framed s long right in
-        let walks = bridge s rows (startOf s) (endOf s) seventeen formed (ordered s long right) (omega (arith, f .long, f .most)) in
+        let walks = bridge s rows (startOf s) (endOf s) seventeen (ordered s long right) (omega (arith, f .long, f .most)) in
         record {
           is = rw e (listing-answered s rows l f laid-here ∙ rw (listed, ← walks, ← template-is s long right) answer-here);
           long = λ z. long;

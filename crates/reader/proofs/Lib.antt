@@ -2,8 +2,7 @@
 pub mod Tags
 pub mod Rows
 pub mod Tables
-pub mod Next
-pub mod Follow
+pub mod Finds
 pub mod Places
 pub mod Bridge
 pub mod Runs

@@ -1,20 +1,11 @@
 -- What a well-formed table says of each of its rows. Assumes nothing.
-use Prim.Native.Nat.{ℕ, zero, suc, _+_, _/_, _%_, _^_, _≤_, _<_}
-use native.Mathlib.Nat.{add-zero, add-suc, suc-add, le-of-suc-le-suc, not-suc-le-zero, lt-of-lt-of-le, div-one}
+use Prim.Native.Nat.{ℕ, zero, suc, _<_}
 use native.Mathlib.Omega.{arith}
-use borrow.Author.Tests.{eqb-true, ltb-true, ltb-false}
 use mathlib.Core.Path.{_≡_, refl}
-use mathlib.Core.Bool.{Bool, true, false, cond, _&&_}
-use mathlib.Core.List.{List, [], _∷_}
-use lib.Dec.{eqb, ltb}
-use lib.ListN.{length, getD}
-use lib.Pow.{pow-mono, pow-lt}
-use Rattle.edition.specs.declared.Rule.{Rule}
-use Rattle.edition.specs.declared.Rule.the-variants.{Digits, Text, Lead, Code, Birth, Expiry, Raw}
-use Rattle.edition.specs.declared.Row.{Row}
-use Rattle.edition.specs.declared.Formed.the-variants.{Well, Bad}
+use mathlib.Core.Bool.{true}
+use lib.Pow.{pow-lt}
 use Rattle.edition.specs.Sets.{permitted, only}
-use Rattle.edition.proofs.Lists.{true-false, and-left, and-right}
+use Rattle.edition.proofs.Lists.{true-false}
 use Rattle.edition.proofs.Sets.{beyond}
 use Rattle.edition.proofs.Rows.{Within28, permits-not-0}
 

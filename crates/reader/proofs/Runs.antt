@@ -2,15 +2,17 @@
 use Prim.Native.Nat.{ℕ, zero, suc, _+_, _-_, _≤_, _<_}
 use native.Mathlib.Nat.{le-of-suc-le-suc}
 use native.Mathlib.Omega.{arith}
-use borrow.Author.Tests.{eq-eqb, ne-eqb}
+use borrow.Author.Count.{below-more}
+use borrow.Author.Tests.{eqb-true, eqb-false, eq-eqb, ne-eqb}
 use mathlib.Core.Path.{_≡_, refl, sym, ap, _∙_}
 use mathlib.Core.Bool.{Bool, true, false, cond}
 use mathlib.Core.List.{List, [], _∷_, _++_}
+use lib.Bits.{bitOr, bitXor, or-add-and, xor-add-and, and-le-l, and-le-r, xor-self}
 use lib.Dec.{eqb}
 use lib.ListN.{length, getD, take, drop, replicate, length-replicate, getD-replicate, length-drop}
 use lib.Seq.{drop-drop, take-all}
 use Rattle.edition.specs.Lists.{agree}
-use Rattle.edition.proofs.Lists.{agree-pass, agree-stop, agree-end}
+use Rattle.edition.proofs.Lists.{agree-pass, agree-stop, agree-end, agree-same}
 
 pub agree-within : (xs zs : List ℕ) → agree xs zs ≤ length zs
 unfolding agree
@@ -116,3 +118,46 @@ agree-none (suc k) b (z ∷ zs) d = rw (ne-eqb b z (λ e. d (sym e)))
 -- a part that goes to the end of the bytes
 pub part-to-end : (n : ℕ) (s : List ℕ) → take (length s - n) (drop n s) ≡ drop n s
 part-to-end n s = take-all (length s - n) (drop n s) (simp length-drop (omega arith))
+
+-- ---- a run, by the bits in which some byte differs
+or-none : (a c : ℕ) → bitOr a c ≡ 0 → (a ≡ 0) × (c ≡ 0)
+or-none a c e =
+    let s = or-add-and a c in
+    let l = and-le-l a c in
+    let r = and-le-r a c in
+    (omega arith, omega arith)
+
+xor-none : (a c : ℕ) → bitXor a c ≡ 0 → a ≡ c
+xor-none a c e =
+    let s = xor-add-and a c in
+    let l = and-le-l a c in
+    let r = and-le-r a c in
+    omega arith
+
+-- the first i bytes are b
+abbrev pub AllAre : List ℕ → ℕ → ℕ → Type 0
+AllAre part b i = (k : ℕ) → k < i → getD part k 0 ≡ b
+
+-- no bit differs so far exactly where all bytes so far are b
+pub record Differs (part : List ℕ) (b difference i : ℕ) : Type 0 where
+  pub none : difference ≡ 0 → AllAre part b i
+  pub some : AllAre part b i → difference ≡ 0
+
+pub differs-start : (part : List ℕ) (b : ℕ) → Differs part b 0 0
+differs-start part b = record { none = λ e k h. absurd (omega arith); some = λ a. refl }
+
+pub differs-next : (part : List ℕ) (b d i : ℕ) → Differs part b d i → Differs part b (bitOr d (bitXor (getD part i 0) b)) (i + 1)
+differs-next part b d i w = record {
+  none = λ e. let z = or-none d (bitXor (getD part i 0) b) e in below-more (λ (k : ℕ). getD part k 0 ≡ b) i (w .none (z .0)) (xor-none (getD part i 0) b (z .1));
+  some = λ a. rw (w .some (λ k h. a k (omega arith)), a i (omega arith), xor-self b);
+}
+
+pub differs-end : (part : List ℕ) (b d : ℕ) → Differs part b d (length part) → eqb d 0 ≡ eqb (agree (replicate (length part) b) part) (length part)
+differs-end part b d w = go (eqb d 0) refl
+  where
+    go : (q : Bool) → eqb d 0 ≡ q → q ≡ eqb (agree (replicate (length part) b) part) (length part)
+    go true e = sym (eq-eqb _ _ (agree-all (length part) b part (omega arith) (w .none (eqb-true d 0 e))))
+    go false e = sym (ne-eqb _ _ (λ same. eqb-false d 0 e (w .some (λ k h.
+        let l = length-replicate (length part) b in
+        let is : replicate (length part) b ≡ part = agree-same (replicate (length part) b) part l (same ∙ sym l) in
+        ap (λ (x : List ℕ). getD x k 0) (sym is) ∙ getD-replicate (length part) k b 0 h))))

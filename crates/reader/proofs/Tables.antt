@@ -1,6 +1,6 @@
 -- The table of places, one row after the other: its values, and the bytes that they take. Assumes nothing.
 use Prim.Native.Nat.{ℕ, zero, suc, _+_, _≤_, _<_}
-use native.Mathlib.Nat.{add-zero, zero-add, not-suc-le-zero}
+use native.Mathlib.Nat.{zero-add, not-suc-le-zero}
 use native.Mathlib.Omega.{arith}
 use borrow.Author.Tests.{eqb-true, eqb-false}
 use mathlib.Core.Path.{_≡_, refl, sym, ap, _∙_}
@@ -63,7 +63,7 @@ pub value-length : (s : List ℕ) (start n : ℕ) → start + n ≤ length s →
 value-length s start n h = length-take-le n (drop start s) (omega (arith, length-drop start s))
 
 -- ---- the bytes of the objects
-object-length : (t : ℕ) (v : List ℕ) → 0 < length v → length (object t v) ≡ length v + 2
+pub object-length : (t : ℕ) (v : List ℕ) → 0 < length v → length (object t v) ≡ length v + 2
 object-length t [] h = absurd (not-suc-le-zero h)
 object-length t (b ∷ v) h = omega arith
 
@@ -96,26 +96,14 @@ module _ (s : List ℕ) (k : ℕ) (st ls : List ℕ) (below : k < 17) (many-star
   unfolding tags
   tags-next = take-suc tags k 0 below
 
-  -- row k is blank
-  module _ (no-start : getD st k 0 ≡ 0) (no-length : getD ls k 0 ≡ 0) where
-    pub values-pass : valuesTo s st ls (suc k) ≡ valuesTo s st ls k ++ ([] ∷ [])
-    values-pass =
-        rw (take-suc st k 0 (omega arith), take-suc ls k 0 (omega arith), no-start, no-length) (values-snoc s (take k st) (take k ls) 0 0 as-many)
-
-    pub bytes-pass : bytesTo s st ls (suc k) ≡ bytesTo s st ls k
-    bytes-pass = rw (tags-next, values-pass) (body-snoc (take k tags) (valuesTo s st ls k) (tagOf k) [] tags-to ∙ add-zero _)
-
   -- row k is entered
   module _ (start n : ℕ) where
     pub values-took : valuesTo s (set st k start) (set ls k n) (suc k) ≡ valuesTo s st ls k ++ (valueAt s start n ∷ [])
     values-took =
         rw (take-suc-set st k start (omega arith), take-suc-set ls k n (omega arith)) (values-snoc s (take k st) (take k ls) start n as-many)
 
-    pub bytes-took : start + n ≤ length s → 0 < n → bytesTo s (set st k start) (set ls k n) (suc k) ≡ bytesTo s st ls k + (n + 2)
-    bytes-took h some =
-        let long = value-length s start n h in
-        let taken = object-length (tagOf k) (valueAt s start n) (omega arith) in
-        rw (tags-next, values-took) (body-snoc (take k tags) (valuesTo s st ls k) (tagOf k) (valueAt s start n) tags-to ∙ omega arith)
+    pub bytes-took : bytesTo s (set st k start) (set ls k n) (suc k) ≡ bytesTo s st ls k + length (object (tagOf k) (valueAt s start n))
+    bytes-took = rw (tags-next, values-took) (body-snoc (take k tags) (valuesTo s st ls k) (tagOf k) (valueAt s start n) tags-to)
 
     -- the rows up to k are as they were
     pub values-before : (j : ℕ) → j ≤ k → valuesTo s (set st k start) (set ls k n) j ≡ valuesTo s st ls j

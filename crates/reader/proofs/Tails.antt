@@ -2,11 +2,10 @@
 use Prim.Native.Nat.{ℕ, zero, suc, _+_, _-_, _≤_, _<_}
 use native.Mathlib.Nat.{add-zero}
 use native.Mathlib.Omega.{arith}
-use borrow.Author.Tests.{le-leb, lt-leb, eq-eqb, ne-eqb}
-use mathlib.Core.Path.{_≡_, refl, sym, ap, _∙_}
-use mathlib.Core.List.{List, [], _∷_, _++_}
+use mathlib.Core.Path.{_≡_, sym, ap, _∙_}
+use mathlib.Core.List.{List, _∷_, _++_}
 use lib.ListN.{length, getD, take, drop, replicate, length-take, length-drop, length-replicate}
-use lib.Seq.{getD-drop, drop-cons}
+use lib.Seq.{getD-drop}
 use Rattle.edition.specs.Lists.{agree}
 use Rattle.card.specs.Fields.{lengthField}
 use Rattle.card.specs.Layout.{spaces, lasts, filler}

@@ -4,7 +4,6 @@ use mathlib.Core.Bool.{Bool, true, false, cond, not, _&&_}
 use mathlib.Core.List.{List, [], _∷_}
 use lib.Dec.{eqb, leb, ltb}
 use lib.ListN.{getD, take, drop, set}
-use Rattle.edition.specs.declared.Rule.the-variants.{Digits}
 use Rattle.edition.specs.declared.Row.{Row}
 use Rattle.edition.specs.declared.values.Verdict.{Verdict}
 use Rattle.edition.specs.declared.values.Verdict.the-variants.{Takes, Outside, Breaks}
@@ -70,12 +69,9 @@ foundAt s at end k r =
 abbrev pub here : List ℕ → ℕ → ℕ → ℕ → Bool
 here s at end k = ltb at end && eqb (getD s at 0) (tagOf k)
 
--- the next object, of the rows from number k on
-unfoldable pub nextFrom : List ℕ → ℕ → ℕ → ℕ → List Row → Found
-nextFrom s at end k [] = Refused 5 at 0
-nextFrom s at end k (r ∷ rs) =
-    cond (here s at end k) (foundAt s at end k r)
-    (cond (r .required) (missing at end k (getD s at 0)) (nextFrom s at end (suc k) rs))
+-- what row k finds at `at`: its object; else a refusal where it is required, and a value of no bytes where it is not
+unfoldable pub readAt : List ℕ → ℕ → ℕ → ℕ → Row → Found
+readAt s at end k r = cond (here s at end k) (foundAt s at end k r) (cond (r .required) (missing at end k (getD s at 0)) (Object k at 0))
 
 -- every row is done, and `at` is behind the last object
 abbrev pub finished : ℕ → List ℕ → List ℕ → Listing
@@ -87,19 +83,12 @@ onFound (Object k start n) at starts lengths took = took k start n
 onFound (Refused x place tag) at starts lengths took =
     record { number = x; place = place; tag = tag; at = at; starts = starts; lengths = lengths }
 
-abbrev pub ended : ℕ → List ℕ → List ℕ → ℕ → ℕ → ℕ → Listing
-ended at starts lengths k start n = finished at starts lengths
-
--- all objects, of the rows from number k on; `fresh` says that the row before was there, so that nothing is due where no row is left
-unfoldable pub listFrom : List ℕ → ℕ → ℕ → List Row → Bool → ℕ → List ℕ → List ℕ → Listing
-listFrom s end k [] fresh at starts lengths =
-    cond fresh (finished at starts lengths) (onFound (Refused 5 at 0) at starts lengths (ended at starts lengths))
-listFrom s end k (r ∷ rs) fresh at starts lengths =
-    cond (here s at end k)
-    (onFound (foundAt s at end k r) at starts lengths
-    (λ j start n. listFrom s end (suc k) rs true (start + n) (set starts j start) (set lengths j n)))
-    (cond (r .required) (onFound (missing at end k (getD s at 0)) at starts lengths (ended at starts lengths))
-    (listFrom s end (suc k) rs false at starts lengths))
+-- all objects, of the rows from number k on
+unfoldable pub listFrom : List ℕ → ℕ → ℕ → List Row → ℕ → List ℕ → List ℕ → Listing
+listFrom s end k [] at starts lengths = finished at starts lengths
+listFrom s end k (r ∷ rs) at starts lengths =
+    onFound (readAt s at end k r) at starts lengths
+    (λ j start n. listFrom s end (suc k) rs (start + n) (set starts k start) (set lengths k n))
 
 -- ---- what a listing says of the template
 -- a refusal with its ends, those of the row that has the tag with number 7

@@ -1,10 +1,9 @@
 -- The objects of a template: the rows are walked in card order, over the bytes that are left.
 use Prim.Native.Nat.{ℕ, _+_}
-use mathlib.Core.Bool.{Bool, true, false, cond}
+use mathlib.Core.Bool.{Bool, true, cond}
 use mathlib.Core.List.{List, [], _∷_, map}
 use lib.Dec.{leb, eqb}
 use lib.ListN.{length, take, drop}
-use Rattle.edition.specs.declared.Row.{Row}
 use Rattle.edition.specs.declared.values.Verdict.{Verdict}
 use Rattle.edition.specs.declared.values.Verdict.the-variants.{Takes, Outside, Breaks}
 use Rattle.edition.specs.Lists.{among}

@@ -1,7 +1,7 @@
 // The names and the town: whether their objects are short enough together.
 use card::Refusal;
 ghost use mathlib.Core.Path.{_≡_};
-ghost use Prim.Native.Nat.{ℕ, _≤_, _<_};
+ghost use Prim.Native.Nat.{_≤_, _<_};
 ghost use lib.ListN.{getD};
 ghost use Rattle.reader.specs.Steps.{firstListed, groupAt, groupsRefusal, TagsInside};
 

@@ -1,7 +1,7 @@
 // The fixed bytes of addresses 0 to 28.
 ghost use mathlib.Core.Path.{_≡_};
 ghost use Prim.Native.Nat.{_≤_};
-ghost use lib.ListN.{length, getD};
+ghost use lib.ListN.{length};
 ghost use Rattle.edition.specs.Lists.{agree};
 ghost use Rattle.reader.specs.Reading.{headEnd};
 

@@ -2,21 +2,21 @@
 use edition::Row;
 use edition::Verdict;
 ghost use mathlib.Core.Path.{_≡_};
-ghost use mathlib.Core.Bool.{false};
 ghost use Prim.Native.Nat.{_+_, _<_, _≤_};
-ghost use lib.ListN.{length, getD, drop, replicate};
+ghost use lib.ListN.{length, getD, replicate};
 ghost use Rattle.edition.specs.Values.{told as verdictTold};
-ghost use Rattle.reader.specs.Objects.{told, rowOf, missing, valued, foundAt, nextFrom, listFrom};
+ghost use Rattle.reader.specs.Objects.{told, rowOf, missing, valued, foundAt, readAt, listFrom};
 
-// What the object reader answers.
+// What a row finds.
 pub(crate) enum Found {
-    // The row, where its value starts, and its length.
+    // The row, where its value starts, and its length; 0 where its object is absent.
     Object(usize, usize, usize),
     // The number, the place and the tag.
     Refused(u8, usize, u8),
 }
 
-// Where the values of a template stand: entry k is row k's, and 0 where its object is absent.
+// Where the values of a template stand: entry k is row k's. An absent object has the length 0 and starts where the next
+// one is due; a row that a refusal leaves unread has 0 and 0.
 pub(crate) struct Listing {
     // The number, the place and the tag of the refusal; 0 where every row is done.
     pub number: u8,
@@ -95,49 +95,39 @@ fn object_at(image: &[u8], at: usize, end: usize, k: usize, row: Row) -> Found
     weigh(k, start, n as usize, verdict)
 }
 
-// The next object: the rows are walked from the row `next` on.
-pub(crate) fn next_object(
-    image: &[u8],
-    rows: [Row; 17],
-    next: usize,
-    at: usize,
-    end: usize,
-) -> Found
+// What row k finds at `at`: its object; where that is not there, a refusal if it is required, and else the length 0.
+pub(crate) fn read_object(image: &[u8], at: usize, end: usize, k: usize, row: Row) -> Found
     requires { ⌜ (end ≤ 256) × (end ≤ length (now image)) ⌝ }
-    ensures { λ r. ⌜ told r ≡ told (nextFrom (now (image .entry)) at end next (drop next rows)) ⌝ }
+    ensures { λ r. ⌜ told r ≡ told (readAt (now (image .entry)) at end k row) ⌝ }
 {
     let b = byte_at(image, at);
-    let mut k = next;
-    while k < 17 {
-        let row = rows[k];
-        if (at < end) & (b == edition::tag_of(k)) {
-            return object_at(image, at, end, k, row);
-        }
-        if row.required {
-            return refuse_missing(at, end, k, b);
-        }
-        k += 1;
+    if (at < end) & (b == edition::tag_of(k)) {
+        return object_at(image, at, end, k, row);
     }
-    Found::Refused(5, at, 0)
+    if row.required {
+        return refuse_missing(at, end, k, b);
+    }
+    Found::Object(k, at, 0)
 }
 
 // Reads the objects of a template from `from` to `end`.
 pub(crate) fn list_objects(image: &[u8], rows: [Row; 17], from: usize, end: usize) -> Listing
     requires { ⌜ (from ≤ end) × ((end ≤ 256) × (end ≤ length (now image))) ⌝ }
-    ensures { λ r. ⌜ r ≡ listFrom (now (image .entry)) end 0 rows false from (replicate 17 0) (replicate 17 0) ⌝ }
+    ensures { λ r. ⌜ r ≡ listFrom (now (image .entry)) end 0 rows from (replicate 17 0) (replicate 17 0) ⌝ }
 {
     let mut starts = [0usize; 17];
     let mut lengths = [0usize; 17];
-    let mut next: usize = 0;
+    let mut k: usize = 0;
     let mut at = from;
-    while next < 17 {
-        let found = next_object(image, rows, next, at, end);
+    while k < 17 {
+        let row = rows[k];
+        let found = read_object(image, at, end, k, row);
         match found {
-            Found::Object(row, start, n) => {
-                starts[row] = start;
-                lengths[row] = n;
+            Found::Object(_, start, n) => {
+                starts[k] = start;
+                lengths[k] = n;
                 at = start + n;
-                next = row + 1;
+                k += 1;
             }
             Found::Refused(number, place, tag) => {
                 return Listing {

@@ -3,6 +3,7 @@ use crate::head::count_same;
 ghost use mathlib.Core.Path.{_≡_};
 ghost use mathlib.Core.List.{_∷_};
 ghost use Prim.Native.Nat.{_+_, _-_, _≤_};
+ghost use lib.Dec.{eqb};
 ghost use lib.ListN.{length, getD, replicate};
 ghost use Rattle.edition.specs.Lists.{agree};
 ghost use Rattle.card.specs.Fields.{lengthField};
@@ -28,8 +29,21 @@ fn lead_same(part: &[u8], count: usize) -> usize
     }
 }
 
-// How many bytes at the head of a part are b.
-fn count_run(part: &[u8], b: u8) -> usize
+// Whether all bytes of a part are b: with no way out of the loop it takes many bytes at a time.
+fn is_run(part: &[u8], b: u8) -> bool
+    ensures { λ r. ⌜ r ≡ eqb (agree (replicate (length (now (part .entry))) b) (now (part .entry))) (length (now (part .entry))) ⌝ }
+{
+    let mut difference = 0u8;
+    let mut i = 0;
+    while i < part.len() {
+        difference = difference | (part[i] ^ b);
+        i += 1;
+    }
+    difference == 0
+}
+
+// The same as count_run, byte by byte.
+fn count_equal(part: &[u8], b: u8) -> usize
     ensures { λ r. ⌜ r ≡ agree (replicate (length (now (part .entry))) b) (now (part .entry)) ⌝ }
 {
     let mut i = 0;
@@ -40,6 +54,17 @@ fn count_run(part: &[u8], b: u8) -> usize
         i += 1;
     }
     i
+}
+
+// How many bytes at the head of a part are b.
+fn count_run(part: &[u8], b: u8) -> usize
+    ensures { λ r. ⌜ r ≡ agree (replicate (length (now (part .entry))) b) (now (part .entry)) ⌝ }
+{
+    if is_run(part, b) {
+        part.len()
+    } else {
+        count_equal(part, b)
+    }
 }
 
 // How many bytes of the part that begins behind the template are as they must be.

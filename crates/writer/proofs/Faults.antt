@@ -1,26 +1,17 @@
 -- What a row says of its object, and the rows one after the other. Assumes nothing.
 use mathlib.Core.Path.{_≡_, refl, sym, ap, _∙_}
-use mathlib.Core.Bool.{Bool, true, false, cond, not, _&&_}
+use mathlib.Core.Bool.{cond}
 use mathlib.Core.List.{List, [], _∷_, map}
-use Prim.Native.Nat.{ℕ, zero, suc, _+_, _%_, _^_, _≤_, _<_}
-use native.Mathlib.Nat.{le-of-suc-le-suc, not-suc-le-zero, lt-of-lt-of-le}
-use native.Mathlib.Decide.{decLe}
+use Prim.Native.Nat.{ℕ, _+_, _<_}
 use native.Mathlib.Numerals.{add-one}
 use native.Mathlib.Omega.{arith}
-use borrow.Author.Tests.{ltb-true}
-use lib.Dec.{eqb, ltb}
 use lib.ListN.{length, getD, drop}
-use lib.Pow.{pow-mono}
 use lib.Seq.{drop-cons}
 use Rattle.edition.specs.declared.Row.{Row}
 use Rattle.edition.specs.declared.Edition.{Edition}
-use Rattle.edition.specs.declared.Formed.{Formed}
-use Rattle.edition.specs.declared.Formed.the-variants.{Well, Bad}
-use Rattle.edition.specs.Sets.{permitted, only}
+use Rattle.edition.specs.Sets.{permitted}
 use Rattle.edition.specs.Values.{judged}
-use Rattle.edition.specs.Rows.{tags, tagOf, setFormed, byRule, rowFormed, formedFrom, noRow}
-use Rattle.edition.proofs.Lists.{true-false, and-left, and-right}
-use Rattle.edition.proofs.Sets.{beyond}
+use Rattle.edition.specs.Rows.{tags, tagOf, noRow}
 use Rattle.card.specs.declared.Object.{Object}
 use Rattle.card.specs.declared.Record.{Record}
 use Rattle.card.specs.declared.Refusal.{Refusal}

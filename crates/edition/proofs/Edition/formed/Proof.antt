@@ -1,19 +1,15 @@
 -- `edition::Edition::formed` meets its contract. The invariant: the rows passed are well formed, so the answer is that of the rows from `i` on.
 -- Assumes nothing.
 use mathlib.Core.Path.{_≡_, refl, sym, ap, _∙_}
-use Prim.Native.Nat.{ℕ, _+_, _-_, _≤_, _<_}
+use Prim.Native.Nat.{_-_, _≤_}
 use native.Mathlib.Omega.{arith}
 use borrow.Author.Needs.{needs}
 use borrow.Author.Tests.{not-true, not-false}
-use lib.ListN.{length, drop, getD, length-map}
-use lib.Dec.{eqb}
+use lib.ListN.{length, drop, length-map}
 use Rattle.edition.specs.Rows.{formedFrom, told}
 use Rattle.edition.proofs.Rows.{formed-pass, formed-stop, formed-end}
 use Rattle.edition.proofs.Edition.formed.Statement.{statement}
 use Rattle.edition.proofs.Edition.formed.Tie as tie
-use Rattle.edition.proofs.Edition.formed.Reads as reads
-use Rattle.edition.proofs.Edition.formed.Lts as lts
-use Rattle.edition.proofs.row_formed.Reads as row-formed-reads
 
 abbrev Inv-loop : tie.InvT-loop
 Inv-loop self i₀ i = (i ≤ 17) × (formedFrom i (drop i (self .rows)) ≡ formedFrom 0 (self .rows))

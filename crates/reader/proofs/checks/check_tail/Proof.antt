@@ -1,6 +1,6 @@
 -- `reader::checks::check_tail` meets its contract: the checksum, the filler, the last byte. Assumes nothing.
 use mathlib.Core.Path.{_≡_, sym, ap, _∙_}
-use Prim.Native.Nat.{_+_, _-_}
+use Prim.Native.Nat.{_-_}
 use mathlib.Core.Bool.{true}
 use lib.Dec.{eqb}
 use native.Mathlib.Omega.{arith}
@@ -8,7 +8,6 @@ use borrow.Author.Tests.{eq-eqb, ne-eqb, not-true, not-false}
 use lib.ListN.{length, getD, take, drop}
 use Rattle.card.specs.Refusals.{gate}
 use Rattle.card.specs.Layout.{xorAll, filler}
-use Rattle.reader.specs.Reading.{tailEnd}
 use Rattle.reader.specs.Steps.{tailRefusal}
 use Rattle.reader.proofs.Runs.{agree-within}
 use Rattle.reader.proofs.Tails.{tail-found}

@@ -1,116 +1,108 @@
--- `reader::objects::list_objects` meets its contract. The loop's invariant: what is still read from row `next` on ends as the whole reading does.
+-- `reader::objects::list_objects` meets its contract. The loop's invariant: what is still read from row k on ends as the whole reading does.
 -- Assumes nothing.
-use mathlib.Core.Path.{_≡_, sym, _∙_}
-use mathlib.Core.Bool.{true, false}
-use Prim.Native.Nat.{ℕ, _+_, _-_, _≤_, _<_}
+use mathlib.Core.Path.{_≡_, refl, sym, _∙_}
+use Prim.Native.Nat.{_+_, _-_, _≤_}
 use native.Mathlib.Omega.{arith}
 use native.Mathlib.Numerals.{add-one}
 use borrow.Author.Needs.{needs}
-use lib.ListN.{length, drop, replicate, length-drop}
+use lib.ListN.{length, getD, drop, replicate}
 use denote.Ref.{now}
+use Rattle.edition.specs.Rows.{noRow}
 use Rattle.reader.specs.declared.objects.Found.the-variants.{Object}
-use Rattle.reader.specs.Objects.{nextFrom, listFrom}
-use Rattle.reader.proofs.Next.{told-apart}
-use Rattle.reader.proofs.Follow.{found-lies, follow, fresh-any, list-end}
+use Rattle.reader.specs.Objects.{readAt, listFrom}
+use Rattle.reader.proofs.Finds.{told-apart, read-inside, list-row, list-end}
 use Rattle.reader.proofs.objects.list_objects.Statement.{statement}
 use Rattle.reader.proofs.objects.list_objects.Tie as tie
 
 abbrev Inv-loop : tie.InvT-loop
-Inv-loop image rows from end starts₀ lengths₀ next₀ at₀ starts lengths next at =
-    (next ≤ 17)
-    × (listFrom image end next (drop next rows) true at starts lengths ≡ listFrom image end 0 rows false from (replicate 17 0) (replicate 17 0))
+Inv-loop image from end rows starts₀ lengths₀ k₀ at₀ starts lengths k at =
+    (at ≤ end) × (listFrom image end k (drop k rows) at starts lengths ≡ listFrom image end 0 rows from (replicate 17 0) (replicate 17 0))
 
 abbrev μ-loop : tie.MeasureT-loop
-μ-loop image rows from end starts₀ lengths₀ next₀ at₀ starts lengths next at = 17 - next
+μ-loop image from end rows starts₀ lengths₀ k₀ at₀ starts lengths k at = 17 - k
 
 -- there are seventeen rows
-seventeen : (c : tie.Start Inv-loop μ-loop) → length (c .args .rows) ≡ 17
+seventeen : (c : tie.Start Inv-loop μ-loop) → length (c .args .t2) ≡ 17
 seventeen c = c .good .1 .0 .1 .0 .1
 
--- what the object reader answered
-answered : (c : tie.After-next-object Inv-loop μ-loop) →
-    let h = c .before .before in
+-- what the row finds
+answered : (c : tie.After-read-object Inv-loop μ-loop) →
+    let h = c .before .before .before in
     let a = h .before .before .args in
-    nextFrom (now (a .image)) (h .loop .at) (a .end) (h .loop .next) (drop (h .loop .next) (a .rows)) ≡ c .next-object .result
-answered c = sym (told-apart _ _ (c .next-object .ensures))
+    readAt (now (a .image)) (h .loop .at) (a .end) (h .loop .k) (getD (a .t2) (h .loop .k) noRow) ≡ c .read-object .result
+answered c = sym (told-apart _ _ (c .read-object .ensures))
 
--- the object that was found, and where it lies
 found : (c : tie.After-known-told Inv-loop μ-loop) →
     let g = c .before .found .given in
-    let h = c .before .before .before .before .before in
+    let h = c .before .before .before .before .before .before in
     let a = h .before .before .args in
-    nextFrom (now (a .image)) (h .loop .at) (a .end) (h .loop .next) (drop (h .loop .next) (a .rows)) ≡ Object (g .0 .0) (g .0 .1 .0) (g .0 .1 .1 .0)
+    readAt (now (a .image)) (h .loop .at) (a .end) (h .loop .k) (getD (a .t2) (h .loop .k) noRow) ≡ Object (g .0 .0) (g .0 .1 .0) (g .0 .1 .1 .0)
 found c = answered (c .before .before .before) ∙ c .before .found .given .1
 
-record Fits (next row start n end : ℕ) : Type 0 where
-  from : next ≤ row
-  below : row < 17
-  inside : start + n ≤ end
-
-fits : (c : tie.After-known-told Inv-loop μ-loop) →
+-- its value ends before the end
+inside : (c : tie.After-known-told Inv-loop μ-loop) →
     let g = c .before .found .given in
-    let h = c .before .before .before .before .before in
-    Fits (h .loop .next) (g .0 .0) (g .0 .1 .0) (g .0 .1 .1 .0) (h .before .before .args .end)
-fits c =
+    g .0 .1 .0 + g .0 .1 .1 .0 ≤ c .before .before .before .before .before .before .before .before .args .end
+inside c =
     let g = c .before .found .given in
-    let h = c .before .before .before .before .before in
+    let h = c .before .before .before .before .before .before in
     let a = h .before .before .args in
-    let l = seventeen (h .before .before) in
-    let w = found-lies (now (a .image)) (h .loop .at) (a .end) (h .loop .next) (drop (h .loop .next) (a .rows)) (g .0 .0) (g .0 .1 .0) (g .0 .1 .1 .0) (found c) in
-    record { from = w .from; below = omega (arith, w .below, length-drop (h .loop .next) (a .rows)); inside = w .inside }
+    read-inside (now (a .image)) (h .loop .at) (a .end) (h .loop .k) (getD (a .t2) (h .loop .k) noRow) (g .0 .0) (g .0 .1 .0) (g .0 .1 .1 .0) (h .loop .inv .0) (found c)
 
 loop-holds : tie.Need-loop-holds Inv-loop μ-loop
-loop-holds c =
-    let a = c .before .args in
-    let l = seventeen (c .before) in
-    (search needs, fresh-any (now (a .image)) (a .end) (a .rows) (a .from) (replicate 17 0) (replicate 17 0) (a .rows) 0 (omega arith))
+loop-holds c = (search needs, refl)
 
-next-object-requires : tie.Need-next-object-requires Inv-loop μ-loop
-next-object-requires c κs = search needs
+mul-row : tie.Need-mul-row Inv-loop μ-loop
+mul-row c = search needs
+
+array-copy-out-row : tie.Need-array-copy-out-row Inv-loop μ-loop
+array-copy-out-row c = search needs
+
+read-object-requires : tie.Need-read-object-requires Inv-loop μ-loop
+read-object-requires c κs = search needs
 
 enum-known-found : tie.Need-enum-known-found Inv-loop μ-loop
 enum-known-found c = search needs
 
 mul-starts : tie.Need-mul-starts Inv-loop μ-loop
-mul-starts c = let w = fits c in omega arith
+mul-starts c = search needs
 
 array-write-starts : tie.Need-array-write-starts Inv-loop μ-loop
-array-write-starts c = fits c .below
+array-write-starts c = search needs
 
 mul-lengths : tie.Need-mul-lengths Inv-loop μ-loop
-mul-lengths c = let w = fits c in omega arith
+mul-lengths c = search needs
 
 array-write-lengths : tie.Need-array-write-lengths Inv-loop μ-loop
-array-write-lengths c = fits c .below
+array-write-lengths c = search needs
 
 add-at : tie.Need-add-at Inv-loop μ-loop
-add-at c = let w = fits c in omega arith
+add-at c = let w = inside c in omega arith
 
-add-next : tie.Need-add-next Inv-loop μ-loop
-add-next c = let w = fits c in omega arith
+add-k : tie.Need-add-k Inv-loop μ-loop
+add-k c = search needs
 
 loop-less : tie.Need-loop-less Inv-loop μ-loop
-loop-less c = let w = fits c in omega arith
+loop-less c = search needs
 
 loop-again : tie.Need-loop-again Inv-loop μ-loop
 loop-again c =
-    let h = c .before .before .before .before .before in
+    let h = c .before .before .before .before .before .before in
     let a = h .before .before .args in
-    let w = fits c in
     let l = seventeen (h .before .before) in
-    let f = rw (found c) at (follow (now (a .image)) (a .end) (a .rows) (h .loop .at) (h .loop .starts) (h .loop .lengths) (h .loop .next) (omega arith)) in
-    (omega arith, rw add-one (sym f ∙ h .loop .inv .1))
+    let f = rw (found c) at (list-row (now (a .image)) (a .end) (a .t2) (h .loop .k) (h .loop .at) (h .loop .starts) (h .loop .lengths) (omega arith)) in
+    (inside c, rw add-one (sym f ∙ h .loop .inv .1))
 
 enum-known-found-2 : tie.Need-enum-known-found-2 Inv-loop μ-loop
 enum-known-found-2 c = search needs
 
 returns : tie.Need-returns Inv-loop μ-loop
 returns c =
-    let h = c .before .before .before .before .before in
+    let h = c .before .before .before .before .before .before in
     let a = h .before .before .args in
     let l = seventeen (h .before .before) in
     let e = answered (c .before .before .before) ∙ c .before .found2 .given .1 in
-    let f = rw e at (follow (now (a .image)) (a .end) (a .rows) (h .loop .at) (h .loop .starts) (h .loop .lengths) (h .loop .next) (omega arith)) in
+    let f = rw e at (list-row (now (a .image)) (a .end) (a .t2) (h .loop .k) (h .loop .at) (h .loop .starts) (h .loop .lengths) (omega arith)) in
     sym f ∙ h .loop .inv .1
 
 returns-2 : tie.Need-returns-2 Inv-loop μ-loop
@@ -118,7 +110,7 @@ returns-2 c =
     let h = c .before in
     let a = h .before .before .args in
     let l = seventeen (h .before .before) in
-    sym (list-end (now (a .image)) (a .end) (a .rows) (h .loop .at) (h .loop .starts) (h .loop .lengths) (h .loop .next) (omega arith)) ∙ h .loop .inv .1
+    sym (list-end (now (a .image)) (a .end) (a .t2) (h .loop .k) (h .loop .at) (h .loop .starts) (h .loop .lengths) (omega arith)) ∙ h .loop .inv .1
 
 pub list-objects-spec : {M : Type 1} → statement M
 list-objects-spec =
@@ -127,14 +119,16 @@ list-objects-spec =
     Inv-loop
     μ-loop
     loop-holds
-    next-object-requires
+    mul-row
+    array-copy-out-row
+    read-object-requires
     enum-known-found
     mul-starts
     array-write-starts
     mul-lengths
     array-write-lengths
     add-at
-    add-next
+    add-k
     loop-less
     loop-again
     enum-known-found-2

@@ -10,7 +10,7 @@ use Rattle.edition.specs.declared.values.Verdict.{Verdict}
 use Rattle.edition.proofs.Verdicts.{told-apart}
 use Rattle.edition.specs.Values.{Told, told as verdictTold, judged}
 use Rattle.reader.specs.Objects.{told, valued}
-use Rattle.reader.proofs.Next.{index-within, found-cut, found-unlisted, found-overlong, found-weighed}
+use Rattle.reader.proofs.Finds.{index-within, found-cut, found-unlisted, found-overlong, found-weighed}
 use borrow.Author.Needs.{needs}
 use Rattle.reader.proofs.objects.object_at.Statement.{statement}
 use Rattle.reader.proofs.objects.object_at.Tie as tie

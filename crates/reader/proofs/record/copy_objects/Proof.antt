@@ -1,7 +1,7 @@
 -- `reader::record::copy_objects` meets its contract. The invariant: the objects copied so far, with absent ones behind them. Assumes nothing.
-use mathlib.Core.Path.{_≡_, refl, sym, ap, _∙_}
+use mathlib.Core.Path.{_≡_, refl, sym, _∙_}
 use mathlib.Core.List.{[], map, append-nil}
-use Prim.Native.Nat.{_+_, _-_, _≤_, _<_}
+use Prim.Native.Nat.{_+_, _-_, _≤_}
 use native.Mathlib.Omega.{arith}
 use lib.ListN.{length, getD, length-take, length-map}
 use Rattle.card.specs.Content.{objectOf}

@@ -1,5 +1,4 @@
 -- `reader::tail::tail_same` meets its contract: each part is passed or holds the first difference. Assumes nothing.
-use mathlib.Core.Path.{_≡_, sym, _∙_}
 use native.Mathlib.Omega.{arith}
 use Rattle.reader.proofs.Tails.{Placed, sizes, lead-stops, spaces-stop, ends-differ, ends-same}
 use borrow.Author.Needs.{needs}

@@ -1,14 +1,13 @@
--- The next object of a template: when a row's object is found, and how the walk over the rows goes on. Assumes nothing.
-use Prim.Native.Nat.{ℕ, _+_, _≤_, _<_}
+-- What a row finds at an address, and how the walk over the rows goes on. Assumes nothing.
+use Prim.Native.Nat.{ℕ, suc, _+_, _≤_, _<_}
 use native.Mathlib.Nat.{le-of-lt}
-use native.Mathlib.Numerals.{add-one}
 use native.Mathlib.Omega.{arith}
 use borrow.Author.Tests.{ltb-true, ltb-false, leb-true, leb-false, le-leb, lt-leb, lt-ltb, le-ltb}
-use mathlib.Core.Path.{_≡_, refl, sym, ap, subst}
+use mathlib.Core.Path.{_≡_, refl, ap}
 use mathlib.Core.Bool.{Bool, true, false, cond, not, _&&_}
 use mathlib.Core.List.{List}
 use lib.Dec.{eqb, leb, ltb}
-use lib.ListN.{length, getD, drop, length-take, drop-of-length-le}
+use lib.ListN.{length, getD, drop, set, length-take, drop-of-length-le}
 use lib.Seq.{drop-cons}
 use Rattle.edition.specs.declared.Rule.{Rule}
 use Rattle.edition.specs.declared.Row.{Row}
@@ -21,7 +20,8 @@ use Rattle.edition.proofs.Lists.{true-false, and-left}
 use Rattle.edition.proofs.Verdicts.{nine-means}
 use Rattle.reader.specs.declared.objects.Found.{Found}
 use Rattle.reader.specs.declared.objects.Found.the-variants.{Object, Refused}
-use Rattle.reader.specs.Objects.{Told, told, later, missing, valued, valueAt, foundAt, here, nextFrom}
+use Rattle.reader.specs.declared.objects.Listing.{Listing}
+use Rattle.reader.specs.Objects.{Told, told, later, missing, valued, valueAt, foundAt, here, readAt, finished, onFound, listFrom}
 
 -- no two answers are told alike
 pub told-apart : (a b : Found) → told a ≡ told b → a ≡ b
@@ -95,90 +95,94 @@ module _ (s : List ℕ) (at end k : ℕ) (r : Row) where
       go false ea true eb true ec = overlong (leb-false end (at + 1) ea) eb (ltb-true end (at + 2 + lengthByte) ec)
       go false ea true eb false ec = weighs (leb-false end (at + 1) ea) eb (ltb-false end (at + 2 + lengthByte) ec) _ refl
 
--- an object of row r with n value bytes stands at `at`
-pub record Stands (at end : ℕ) (r : Row) (n : ℕ) : Type 0 where
-  pub allowed : permitted (r .lengths) n ≡ true
-  pub inside : at + 2 + n ≤ end
-
--- no refusal is an object
-pub apart : {x place tag k start n : ℕ} → Refused x place tag ≡ Object k start n → ⊥
-apart e = let z : _≡_ {A = ℕ} 0 1 = cc in omega arith
-
-pub found-stands : (s : List ℕ) (at end k : ℕ) (r : Row) (j start n : ℕ) → foundAt s at end k r ≡ Object j start n
-    → (j ≡ k) × (start ≡ at + 2) × Stands at end r n
-unfolding valued
-found-stands s at end k r j start n e = go (foundAt s at end k r) (sight s at end k r) e
-  where
-    go : (f : Found) → Sight s at end k r f → f ≡ Object j start n → (j ≡ k) × (start ≡ at + 2) × Stands at end r n
-    go f (cut h) p = absurd (apart p)
-    go f (unlisted h b) p = absurd (apart p)
-    go f (overlong h b c) p = absurd (apart p)
-    go f (weighs h b c (Outside i) v) p = absurd (apart p)
-    go f (weighs h b c Breaks v) p = absurd (apart p)
-    go f (weighs h b c Takes v) p =
-        let same : getD s (at + 1) 0 ≡ n = cc in
-        (cc, cc, subst (λ (x : ℕ). Stands at end r x) same record { allowed = b; inside = c })
+-- ---- what row k finds: its value, or where it is refused
+-- the value that a row which is reached at `at` has: behind its tag and its length byte, or none
+pub data Value (at end : ℕ) (r : Row) : ℕ → ℕ → Type 0 where
+  there : {n : ℕ} → permitted (r .lengths) n ≡ true → at + 2 + n ≤ end → Value at end r (at + 2) n
+  none : r .required ≡ false → Value at end r at 0
 
 -- a refusal has a number, and its place is not behind the end
 pub record Stops (end x place : ℕ) : Type 0 where
   pub number : 0 < x
   pub inside : place ≤ end
 
-same-stop : {end x place tag x′ place′ tag′ : ℕ} → Stops end x place → Refused x place tag ≡ Refused x′ place′ tag′ → Stops end x′ place′
-same-stop {end} {x} {place} {tag} {x′} {place′} w e =
-    let number : x ≡ x′ = cc in
-    let at : place ≡ place′ = cc in
-    rw (← number, ← at) w
+pub data Reads (at end k : ℕ) (r : Row) : Found → Type 0 where
+  takes : (start n : ℕ) → Value at end r start n → Reads at end k r (Object k start n)
+  stops : (x place tag : ℕ) → Stops end x place → Reads at end k r (Refused x place tag)
 
-pub found-stops : (s : List ℕ) (at end k : ℕ) (r : Row) (x place tag : ℕ) → at ≤ end → foundAt s at end k r ≡ Refused x place tag → Stops end x place
-unfolding valued
-found-stops s at end k r x place tag low e = go (foundAt s at end k r) (sight s at end k r) e
+module _ (s : List ℕ) (at end k : ℕ) (r : Row) (low : at ≤ end) where
+  found-reads : Reads at end k r (foundAt s at end k r)
+  unfolding valued
+  found-reads = go (foundAt s at end k r) (sight s at end k r)
+    where
+      go : (f : Found) → Sight s at end k r f → Reads at end k r f
+      go f (cut h) = stops 8 at _ record { number = omega arith; inside = low }
+      go f (unlisted h b) = stops 7 (at + 1) _ record { number = omega arith; inside = omega arith }
+      go f (overlong h b c) = stops 8 at _ record { number = omega arith; inside = low }
+      go f (weighs h b c Takes v) = takes (at + 2) _ (there b c)
+      go f (weighs h b c (Outside i) v) =
+          let value = valueAt s (at + 2) (getD s (at + 1) 0) in
+          let within = nine-means (r .rule) value i v .inside in
+          let short = length-take (getD s (at + 1) 0) (drop (at + 2) s) in
+          stops 9 (at + 2 + i) _ record { number = omega arith; inside = omega arith }
+      go f (weighs h b c Breaks v) = stops 10 (at + 2) _ record { number = omega arith; inside = omega arith }
+
+  missing-reads : (b : ℕ) → Reads at end k r (missing at end k b)
+  unfolding missing
+  missing-reads b = go (ltb at end && not (later k b))
+    where
+      go : (q : Bool) → Reads at end k r (cond q (Refused 5 at 0) (Refused 6 at (tagOf k)))
+      go true = stops 5 at 0 record { number = omega arith; inside = low }
+      go false = stops 6 at (tagOf k) record { number = omega arith; inside = low }
+
+  pub reads : Reads at end k r (readAt s at end k r)
+  unfolding readAt
+  reads = go (here s at end k) (r .required) refl
+    where
+      go : (a q : Bool) → r .required ≡ q → Reads at end k r (cond a (foundAt s at end k r) (cond q (missing at end k (getD s at 0)) (Object k at 0)))
+      go true q e = found-reads
+      go false true e = missing-reads (getD s at 0)
+      go false false e = takes at 0 (none e)
+
+-- a value ends before the end
+pub value-inside : (at end start n : ℕ) (r : Row) → at ≤ end → Value at end r start n → start + n ≤ end
+value-inside at end start n r low (there b c) = c
+value-inside at end start n r low (none q) = omega arith
+
+pub read-inside : (s : List ℕ) (at end k : ℕ) (r : Row) (j start n : ℕ) → at ≤ end → readAt s at end k r ≡ Object j start n → start + n ≤ end
+read-inside s at end k r j start n low e = go (readAt s at end k r) (reads s at end k r low) e
   where
-    go : (f : Found) → Sight s at end k r f → f ≡ Refused x place tag → Stops end x place
-    go f (cut h) p = same-stop record { number = omega arith; inside = low } p
-    go f (unlisted h b) p = same-stop record { number = omega arith; inside = omega arith } p
-    go f (overlong h b c) p = same-stop record { number = omega arith; inside = low } p
-    go f (weighs h b c Takes v) p = absurd (apart (sym p))
-    go f (weighs h b c (Outside i) v) p =
-        let value = valueAt s (at + 2) (getD s (at + 1) 0) in
-        let within = nine-means (r .rule) value i v .inside in
-        let short = length-take (getD s (at + 1) 0) (drop (at + 2) s) in
-        same-stop record { number = omega arith; inside = omega arith } p
-    go f (weighs h b c Breaks v) p = same-stop record { number = omega arith; inside = omega arith } p
+    go : (f : Found) → Reads at end k r f → f ≡ Object j start n → start + n ≤ end
+    go f (takes start′ n′ v) p =
+        let begins : start′ ≡ start = cc in
+        let long : n′ ≡ n = cc in
+        omega (arith, value-inside at end start′ n′ r low v)
+    go f (stops x place tag w) p = absurd (let z : _≡_ {A = ℕ} 0 1 = cc in omega arith)
 
--- a required row that is passed over is no object, but refused where it was met
-pub missing-apart : (at end k b j start n : ℕ) → missing at end k b ≡ Object j start n → ⊥
-unfolding missing
-missing-apart at end k b j start n e = go (ltb at end && not (later k b)) e
-  where
-    go : (q : Bool) → cond q (Refused 5 at 0) (Refused 6 at (tagOf k)) ≡ Object j start n → ⊥
-    go true e′ = apart e′
-    go false e′ = apart e′
+-- ---- the answer for row k, by whether its tag is here
+module _ (s : List ℕ) (at end k : ℕ) (r : Row) where
+  pub read-here : here s at end k ≡ true → readAt s at end k r ≡ foundAt s at end k r
+  unfolding readAt
+  read-here t = rw t
 
-pub missing-stops : (at end k b x place tag : ℕ) → at ≤ end → missing at end k b ≡ Refused x place tag → Stops end x place
-unfolding missing
-missing-stops at end k b x place tag low e = go (ltb at end && not (later k b)) e
-  where
-    go : (q : Bool) → cond q (Refused 5 at 0) (Refused 6 at (tagOf k)) ≡ Refused x place tag → Stops end x place
-    go true e′ = same-stop record { number = omega arith; inside = low } e′
-    go false e′ = same-stop record { number = omega arith; inside = low } e′
+  pub read-missing : here s at end k ≡ false → r .required ≡ true → readAt s at end k r ≡ missing at end k (getD s at 0)
+  unfolding readAt
+  read-missing t q = rw (t, q)
 
--- ---- the walk at row k: its object, the refusal, or on to the next row
-module _ (s : List ℕ) (at end : ℕ) (rs : List Row) (k : ℕ) where
-  pub next-here : k < length rs → here s at end k ≡ true → nextFrom s at end k (drop k rs) ≡ foundAt s at end k (getD rs k noRow)
-  unfolding nextFrom
-  next-here h t = rw (drop-cons rs k noRow, t)
+  pub read-none : here s at end k ≡ false → r .required ≡ false → readAt s at end k r ≡ Object k at 0
+  unfolding readAt
+  read-none t q = rw (t, q)
 
-  pub next-missing : k < length rs → here s at end k ≡ false → getD rs k noRow .required ≡ true
-      → nextFrom s at end k (drop k rs) ≡ missing at end k (getD s at 0)
-  unfolding nextFrom
-  next-missing h t q = rw (drop-cons rs k noRow, t, q)
+-- ---- the walk at row k, and behind the last row
+module _ (s : List ℕ) (end : ℕ) (rows : List Row) (k at : ℕ) (st ls : List ℕ) where
+  -- the reading behind row k's value
+  abbrev pub onwards : ℕ → ℕ → ℕ → Listing
+  onwards j start n = listFrom s end (suc k) (drop (suc k) rows) (start + n) (set st k start) (set ls k n)
 
-  pub next-pass : k < length rs → here s at end k ≡ false → getD rs k noRow .required ≡ false
-      → nextFrom s at end k (drop k rs) ≡ nextFrom s at end (k + 1) (drop (k + 1) rs)
-  unfolding nextFrom
-  next-pass h t q = rw (add-one, drop-cons rs k noRow, t, q)
+  pub list-row : k < length rows → listFrom s end k (drop k rows) at st ls ≡ onFound (readAt s at end k (getD rows k noRow)) at st ls onwards
+  unfolding listFrom
+  list-row h = rw (drop-cons rows k noRow h)
 
-  pub next-end : length rs ≤ k → nextFrom s at end k (drop k rs) ≡ Refused 5 at 0
-  unfolding nextFrom
-  next-end h = rw (drop-of-length-le rs h)
+  pub list-end : length rows ≤ k → listFrom s end k (drop k rows) at st ls ≡ finished at st ls
+  unfolding listFrom
+  list-end h = rw (drop-of-length-le rows h)
