@@ -6,3 +6,4 @@ pub mod Records
 pub mod Layouts
 pub mod Octets
 pub mod Room
+pub mod Stores

@@ -1,5 +1,5 @@
 -- The laws of the definitions.
-pub mod Stores
+pub mod Puts
 pub mod Words
 pub mod Lines
 pub mod Shown

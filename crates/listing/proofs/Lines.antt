@@ -11,7 +11,7 @@ use Rattle.card.specs.declared.Object.{Object}
 use Rattle.card.specs.Layout.{objectTags}
 use Rattle.listing.specs.Listing.{objectLine, objectLines}
 use Rattle.listing.specs.Rooms.{Put, shown}
-use Rattle.listing.proofs.Stores.{sets-then}
+use Rattle.card.proofs.Stores.{sets-then}
 
 -- what stands past the end of a list of objects
 abbrev pub absent : Object

@@ -8,7 +8,7 @@ use lib.Seq.{sets}
 use Rattle.card.specs.Fields.{lengthField}
 use Rattle.card.specs.Layout.{spaces, lasts, filler}
 use Rattle.card.proofs.Room.{room}
-use Rattle.writer.proofs.Stores.{sets-then, sets-whole}
+use Rattle.card.proofs.Stores.{sets-then, sets-whole}
 
 -- where the spaces begin and end, once the length is written
 pub record Placed (t n start : ℕ) : Type 0 where

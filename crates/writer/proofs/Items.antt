@@ -12,7 +12,7 @@ use Rattle.card.specs.declared.Record.{Record}
 use Rattle.card.specs.Content.{valueOf, contentOf}
 use Rattle.card.specs.Layout.{object, body, objectTags, objectsOf}
 use Rattle.writer.specs.Storing.{absent}
-use Rattle.writer.proofs.Stores.{sets-then}
+use Rattle.card.proofs.Stores.{sets-then}
 
 -- ---- a value
 

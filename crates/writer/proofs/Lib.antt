@@ -1,5 +1,4 @@
 -- The laws of the writer.
-pub mod Stores
 pub mod Fillers
 pub mod Heading
 pub mod Items

@@ -7,7 +7,7 @@ use lib.ListN.{length}
 use lib.Seq.{length-take-le}
 use borrow.Author.Tests.{lt-leb, le-leb}
 use Rattle.listing.proofs.Shown.{listed}
-use Rattle.listing.proofs.Stores.{put-same}
+use Rattle.listing.proofs.Puts.{put-same}
 use borrow.Author.Needs.{needs}
 use Rattle.listing.proofs.list.Statement.{statement}
 use Rattle.listing.proofs.list.Tie as tie

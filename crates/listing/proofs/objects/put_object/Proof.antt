@@ -5,7 +5,7 @@ use lib.ListN.{length, take}
 use lib.Seq.{length-take-le}
 use Rattle.listing.specs.Listing.{hex}
 use Rattle.listing.specs.Rooms.{shown}
-use Rattle.listing.proofs.Stores.{put-then, put-same}
+use Rattle.listing.proofs.Puts.{put-then, put-same}
 use Rattle.listing.proofs.Words.{line-none, line-some, line-short, take-part}
 use borrow.Author.Needs.{needs}
 use Rattle.listing.proofs.objects.put_object.Statement.{statement}

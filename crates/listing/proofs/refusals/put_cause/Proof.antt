@@ -1,7 +1,7 @@
 -- `listing::refusals::put_cause` meets its contract: three runs in a row. Assumes nothing.
 use native.Mathlib.Omega.{arith}
 use Rattle.listing.specs.Listing.{cause}
-use Rattle.listing.proofs.Stores.{put-then}
+use Rattle.listing.proofs.Puts.{put-then}
 use Rattle.listing.proofs.Words.{decimal-short}
 use borrow.Author.Needs.{needs}
 use Rattle.listing.proofs.refusals.put_cause.Statement.{statement}

@@ -1,5 +1,5 @@
 -- `listing::refusals::put_tag` meets its contract: two runs in a row. Assumes nothing.
-use Rattle.listing.proofs.Stores.{put-then}
+use Rattle.listing.proofs.Puts.{put-then}
 use borrow.Author.Needs.{needs}
 use Rattle.listing.proofs.refusals.put_tag.Statement.{statement}
 use Rattle.listing.proofs.refusals.put_tag.Tie as tie

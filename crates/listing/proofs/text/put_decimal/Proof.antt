@@ -1,6 +1,6 @@
 -- `listing::text::put_decimal` meets its contract: the digits of each of its three cases. Assumes nothing.
 use native.Mathlib.Omega.{arith}
-use Rattle.listing.proofs.Stores.{put-then}
+use Rattle.listing.proofs.Puts.{put-then}
 use Rattle.listing.proofs.Words.{decimal-one, decimal-two, decimal-three}
 use borrow.Author.Needs.{needs}
 use Rattle.listing.proofs.text.put_decimal.Statement.{statement}

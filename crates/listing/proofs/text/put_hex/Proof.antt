@@ -1,6 +1,6 @@
 -- `listing::text::put_hex` meets its contract: two digits. Assumes nothing.
 use Rattle.listing.specs.Listing.{hex}
-use Rattle.listing.proofs.Stores.{put-then}
+use Rattle.listing.proofs.Puts.{put-then}
 use borrow.Author.Needs.{needs}
 use Rattle.listing.proofs.text.put_hex.Statement.{statement}
 use Rattle.listing.proofs.text.put_hex.Tie as tie

@@ -1,5 +1,5 @@
 -- `listing::text::put_line` meets its contract: two runs in a row. Assumes nothing.
-use Rattle.listing.proofs.Stores.{put-then}
+use Rattle.listing.proofs.Puts.{put-then}
 use borrow.Author.Needs.{needs}
 use Rattle.listing.proofs.text.put_line.Statement.{statement}
 use Rattle.listing.proofs.text.put_line.Tie as tie

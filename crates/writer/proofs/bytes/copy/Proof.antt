@@ -5,7 +5,7 @@ use Prim.Native.Nat.{ℕ, _+_, _-_, _≤_}
 use native.Mathlib.Omega.{arith}
 use lib.ListN.{length, getD, set, take, length-set}
 use lib.Seq.{sets, take-length}
-use Rattle.writer.proofs.Stores.{sets-copy}
+use Rattle.card.proofs.Stores.{sets-copy}
 use Rattle.writer.proofs.bytes.copy.Statement.{statement}
 use Rattle.writer.proofs.bytes.copy.Tie as tie
 

@@ -5,7 +5,7 @@ use Prim.Native.Nat.{ℕ, _+_, _-_, _≤_}
 use native.Mathlib.Omega.{arith}
 use lib.ListN.{length, set, replicate, length-set}
 use lib.Seq.{sets}
-use Rattle.writer.proofs.Stores.{sets-fill}
+use Rattle.card.proofs.Stores.{sets-fill}
 use Rattle.writer.proofs.bytes.fill.Statement.{statement}
 use Rattle.writer.proofs.bytes.fill.Tie as tie
 
