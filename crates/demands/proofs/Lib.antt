@@ -1,4 +1,4 @@
--- The theorems: the marked cases; what the reader accepts; nested editions; what the writer writes; the numbers of the refusals.
+-- The theorems: the marked cases; what the reader accepts; nested editions; what the writer writes; the numbers and places of the refusals.
 pub mod Worked
 pub mod WalkLaws
 pub mod Tables
@@ -12,6 +12,8 @@ pub mod NestedLaws
 pub mod NestedTest
 pub mod Writes
 pub mod Numbers
+pub mod Addresses
+pub mod Indices
 pub mod Library
 pub mod Wrong
 pub mod Determined

@@ -25,12 +25,12 @@ use Rattle.writer.specs.Writing as writing
 use Rattle.writer.specs.Writing.{rowRefusal, rowsRefusal, refusal}
 use Rattle.demands.specs.Demands.{readingNumbers, writingNumbers}
 
-gate-keeps : {A : Type 0} (P : A → Type 0) (q : Bool) (x w : A) → P x → P w → P (gate q x w)
+pub gate-keeps : {A : Type 0} (P : A → Type 0) (q : Bool) (x w : A) → P x → P w → P (gate q x w)
 unfolding gate
 gate-keeps P true x w a b = b
 gate-keeps P false x w a b = a
 
-cond-keeps : {A : Type 0} (P : A → Type 0) (q : Bool) (x y : A) → P x → P y → P (cond q x y)
+pub cond-keeps : {A : Type 0} (P : A → Type 0) (q : Bool) (x y : A) → P x → P y → P (cond q x y)
 cond-keeps P true x y a b = a
 cond-keeps P false x y a b = b
 
