@@ -1,4 +1,4 @@
--- Every place that a reading gives back is an address, below 256. Assumes nothing.
+-- Every place that a reading gives back is an address, below 256, under any table of seventeen rows.
 use Prim.Native.Nat.{ℕ, zero, suc, _+_, _-_, _≤_, _<_}
 use native.Mathlib.Omega.{arith}
 use mathlib.Core.Path.{_≡_, refl, ap}

@@ -1,4 +1,4 @@
--- Every place that a writing gives back is an index within a value, or 0. Assumes values of at most 255 bytes, as a record's are.
+-- Every place that a writing gives back is below 256, where no value has more than 255 bytes.
 use Prim.Native.Nat.{ℕ, suc, _≤_, _<_}
 use native.Mathlib.Omega.{arith}
 use mathlib.Core.Path.{_≡_, refl}
