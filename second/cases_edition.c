@@ -97,8 +97,9 @@ static void two_spoiled_rows(void)
     size_t i;
 
     for (i = 0; i < 16; i++) {
+        size_t cause = chance(CAUSE_COUNT);
         edition = copy_of(&terminal);
-        spoil(edition.table, chance(ROW_COUNT), chance(CAUSE_COUNT));
+        spoil(edition.table, chance(ROW_COUNT), cause);
         spoil(edition.table, i, chance(CAUSE_COUNT));
         emit_under(&edition, i);
     }
@@ -162,6 +163,7 @@ static void spoil_record(uint8_t *record, const uint8_t *table)
 {
     size_t row = chance(OBJECT_COUNT);
     uint8_t *slot = slot_of(record, row);
+    uint8_t byte;
 
     switch (chance(4)) {
     case 0:
@@ -174,7 +176,8 @@ static void spoil_record(uint8_t *record, const uint8_t *table)
         chance_value((unsigned)chance(6), slot + 1, slot[0]);
         break;
     default:
-        slot[1 + chance(slot[0] != 0 ? slot[0] : 1)] = (uint8_t)chance(128);
+        byte = (uint8_t)chance(128);
+        slot[1 + chance(slot[0] != 0 ? slot[0] : 1)] = byte;
         break;
     }
 }

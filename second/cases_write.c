@@ -272,15 +272,17 @@ static void mutations(void)
     size_t i, row;
 
     for (i = 0; i < 80; i++) {
-        uint8_t *slot;
+        uint8_t *slot, byte;
         if (!chance_record(record, turn(i)->table))
             continue;
         row = chance(OBJECT_COUNT);
         slot = slot_of(record, row);
-        if (chance(3) == 0)
+        if (chance(3) == 0) {
             slot[0] = (uint8_t)(slot[0] + (chance(2) ? 1 : 255));
-        else
-            slot[1 + chance(slot[0] != 0 && slot[0] < VALUE_MAX ? slot[0] : 1)] = (uint8_t)(0x20 + chance(0x60));
+        } else {
+            byte = (uint8_t)(0x20 + chance(0x60));
+            slot[1 + chance(slot[0] != 0 && slot[0] < VALUE_MAX ? slot[0] : 1)] = byte;
+        }
         emit_record(i % 6 == 0 ? turn(i + 1) : turn(i), record);
     }
 }

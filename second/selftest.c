@@ -384,6 +384,7 @@ static void test_random_damage(void)
     uint8_t record[RECORD_SIZE];
     struct draft draft;
     unsigned round;
+    uint8_t byte;
 
     test_case.length = IMAGE_SIZE;
     for (round = 0; round < 20000; round++) {
@@ -395,7 +396,8 @@ static void test_random_damage(void)
             continue;
         draft_card(&draft, record);
         CHECK(read_draft(test_case.table, &draft) == 0);
-        draft.image[chance(IMAGE_SIZE)] = (uint8_t)chance(256);
+        byte = (uint8_t)chance(256);
+        draft.image[chance(IMAGE_SIZE)] = byte;
         if (chance(2))
             draft_mend(&draft);
         memcpy(test_case.image, draft.image, IMAGE_SIZE);

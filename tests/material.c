@@ -20,6 +20,12 @@ static uint8_t telling_byte(void)
     return chance(2) ? (uint8_t)chance(256) : bytes[chance(COUNT(bytes))];
 }
 
+/* The address is drawn before the byte, with every compiler. */
+static void put_telling_byte(uint8_t *address)
+{
+    *address = telling_byte();
+}
+
 /* Stock */
 
 static size_t permitted_length(const uint8_t *table, size_t row)
@@ -116,7 +122,7 @@ void damage_table(uint8_t *table)
         row = other;
         break;
     case 6:
-        table[chance(TABLE_SIZE)] = (uint8_t)chance(256);
+        random_bytes(table + chance(TABLE_SIZE), 1);
         return;
     default:
         random_bytes(table + row * ROW_SIZE, ROW_SIZE);
@@ -195,14 +201,14 @@ void damage_record(uint8_t *record, const uint8_t *table)
         chance_fill(record, table, row, 1 + chance(VALUE_MAX));
         break;
     case 5:
-        slot[1 + chance(slot[0] != 0 && slot[0] < VALUE_MAX ? slot[0] : VALUE_MAX)] = telling_byte();
+        put_telling_byte(&slot[1 + chance(slot[0] != 0 && slot[0] < VALUE_MAX ? slot[0] : VALUE_MAX)]);
         break;
     case 6:
     case 7:
         put_simpler_value(slot_of(record, chance(2) ? row : (size_t)(chance(2) ? ROW_88 : ROW_8D)));
         break;
     case 8:
-        record[chance(2) ? 0 : RECORD_LAST] = telling_byte();
+        put_telling_byte(&record[chance(2) ? 0 : RECORD_LAST]);
         break;
     case 9:
         put_edge_sum(record, table, chance(2) ? ROW_84 : ROW_8A);
@@ -233,7 +239,7 @@ static size_t from_on(size_t address)
 
 static void change_head(struct stock *stock)
 {
-    stock->draft.image[chance(33)] = telling_byte();
+    put_telling_byte(&stock->draft.image[chance(33)]);
 }
 
 static void change_length(struct stock *stock)
@@ -245,31 +251,34 @@ static void change_length(struct stock *stock)
 
 static void change_tag(struct stock *stock)
 {
-    stock->draft.image[any_tag_address(stock)] = (uint8_t)(0x7F + chance(20));
+    uint8_t *tag = stock->draft.image + any_tag_address(stock);
+
+    *tag = (uint8_t)(0x7F + chance(20));
 }
 
 static void change_template_length(struct stock *stock)
 {
     uint8_t *length = stock->draft.image + 31 + chance(2);
+    unsigned step = chance(2) ? 1 : 255;
 
-    *length = (uint8_t)(*length + (chance(2) ? 1 : 255) * (1 + chance(3)));
+    *length = (uint8_t)(*length + step * (1 + chance(3)));
 }
 
 static void change_template(struct stock *stock)
 {
-    stock->draft.image[30 + chance(stock->draft.end < IMAGE_SIZE ? stock->draft.end - 30 : 226)] = telling_byte();
+    put_telling_byte(&stock->draft.image[30 + chance(stock->draft.end < IMAGE_SIZE ? stock->draft.end - 30 : 226)]);
 }
 
 static void change_tail(struct stock *stock)
 {
-    stock->draft.image[chance(2) ? from_on(stock->draft.end) : 253 + chance(3)] = telling_byte();
+    put_telling_byte(&stock->draft.image[chance(2) ? from_on(stock->draft.end) : 253 + chance(3)]);
 }
 
 static void change_tail_begin(struct stock *stock)
 {
     size_t address = stock->draft.end + chance(4);
 
-    stock->draft.image[address < IMAGE_SIZE ? address : 255] = telling_byte();
+    put_telling_byte(&stock->draft.image[address < IMAGE_SIZE ? address : 255]);
 }
 
 static void change_checksum(struct stock *stock)
@@ -281,7 +290,9 @@ static void change_checksum(struct stock *stock)
 
 static void flip_bit(struct stock *stock)
 {
-    stock->draft.image[chance(IMAGE_SIZE)] ^= (uint8_t)(1u << chance(8));
+    size_t address = chance(IMAGE_SIZE);
+
+    stock->draft.image[address] ^= (uint8_t)(1u << chance(8));
 }
 
 static void cut_in_two(struct stock *stock)
@@ -344,8 +355,9 @@ static void assemble_wrong(struct stock *stock)
     draft->long_form = chance(16) == 0;
     draft_rows(draft, record, 0, row);
     if (chance(4) == 0) {
+        size_t length = chance(sizeof value);
         random_bytes(value, sizeof value);
-        draft_object(draft, chance(ROW_COUNT), value, chance(sizeof value));
+        draft_object(draft, chance(ROW_COUNT), value, length);
     }
     if (chance(8) == 0)
         draft_byte(draft, (uint8_t)(0x80 + chance(17)));

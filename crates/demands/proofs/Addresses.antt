@@ -25,9 +25,10 @@ use Rattle.card.specs.Refusals.{refuse, refuseLength, gate}
 use Rattle.card.specs.Layout.{head, body, filler}
 use Rattle.card.specs.Rules.{Entry, entries, objectRows, firstPresent}
 use Rattle.card.proofs.Layouts.{length-field}
-use Rattle.reader.proofs.Runs.{agree-within}
-use Rattle.reader.specs.Walk.{Seen, absent, there, wrong, weighed, objectAt, passed, look, Walked, through, stopped, push, onward, tagsOf, walk}
-use Rattle.reader.specs.Reading.{Answer, accepted, refused, orBad, freeOf, headEnd, fieldWrong, fieldOf, startOf, endOf, groupRefusal, tailEnd, templateOf, behind, answer}
+use Rattle.frame.proofs.Runs.{agree-within}
+use Rattle.objects.specs.Walk.{Seen, absent, there, wrong, weighed, objectAt, passed, look, Walked, through, stopped, push, onward, tagsOf, walk}
+use Rattle.frame.specs.Frame.{freeOf, headEnd, fieldWrong, fieldOf, startOf, endOf, tailEnd, templateOf}
+use Rattle.reader.specs.Reading.{Answer, accepted, refused, orBad, groupRefusal, behind, answer}
 use Rattle.demands.proofs.WalkLaws.{sound}
 use Rattle.demands.proofs.Tables.{Table, table-of, withEight}
 use Rattle.demands.proofs.Fields.{sizeOf, FieldBack, field-back}

@@ -23,6 +23,11 @@ use Rattle.card.proofs.checksum.Reads as checksum
 use Rattle.card.proofs.read_length.Reads as read-length
 use Rattle.card.proofs.names_fit.Reads as names-fit
 use Rattle.card.proofs.town_fits.Reads as town-fits
+use Rattle.frame.proofs.check_front.Reads as check-front
+use Rattle.frame.proofs.check_back.Reads as check-back
+use Rattle.objects.proofs.list_objects.Reads as list-objects
+use Rattle.objects.proofs.refuse_object.Reads as refuse-object
+use Rattle.objects.proofs.check_groups.Reads as check-groups
 use Rattle.reader.proofs.read.Reads as read
 use Rattle.writer.proofs.write.Reads as write
 use Rattle.listing.proofs.list.Reads as list
@@ -78,6 +83,21 @@ names-fit-once κs a z y e f p q = p ∙ sym q
 
 pub town-fits-once : (κs : _) (a : _) (z y : _) (e f : _) → town-fits.Post κs a z e → town-fits.Post κs a y f → z ≡ y
 town-fits-once κs a z y e f p q = p ∙ sym q
+
+pub check-front-once : (κs : _) (a : _) (z y : _) (e f : _) → check-front.Post κs a z e → check-front.Post κs a y f → z ≡ y
+check-front-once κs a z y e f p q = p ∙ sym q
+
+pub check-back-once : (κs : _) (a : _) (z y : _) (e f : _) → check-back.Post κs a z e → check-back.Post κs a y f → z ≡ y
+check-back-once κs a z y e f p q = p ∙ sym q
+
+pub list-objects-once : (κs : _) (a : _) (z y : _) (e f : _) → list-objects.Post κs a z e → list-objects.Post κs a y f → z ≡ y
+list-objects-once κs a z y e f p q = p ∙ sym q
+
+pub refuse-object-once : (κs : _) (a : _) (z y : _) (e f : _) → refuse-object.Post κs a z e → refuse-object.Post κs a y f → z ≡ y
+refuse-object-once κs a z y e f p q = p ∙ sym q
+
+pub check-groups-once : (κs : _) (a : _) (z y : _) (e f : _) → check-groups.Post κs a z e → check-groups.Post κs a y f → z ≡ y
+check-groups-once κs a z y e f p q = p ∙ sym q
 
 pub read-once : (κs : _) (a : _) (z y : _) (e f : _) → read.Post κs a z e → read.Post κs a y f → z ≡ y
 read-once κs a z y e f p q = p ∙ sym q

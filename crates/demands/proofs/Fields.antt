@@ -11,7 +11,7 @@ use borrow.Author.Tests.{eqb-true, le-leb, lt-leb, leb-true, leb-false}
 use Rattle.edition.proofs.Lists.{and-left, and-right}
 use Rattle.card.specs.declared.fields.LengthField.the-variants.{One, Two, Other}
 use Rattle.card.specs.Fields.{lengthField, secondByte, lengthAt, told}
-use Rattle.reader.specs.Reading.{fieldWrong, fieldOf, startOf}
+use Rattle.frame.specs.Frame.{fieldWrong, fieldOf, startOf}
 
 -- the template's length as it stands on the card
 abbrev pub sizeOf : List ℕ → ℕ

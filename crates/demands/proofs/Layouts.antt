@@ -16,7 +16,7 @@ use Rattle.edition.proofs.Lists.{true-false}
 use Rattle.edition.proofs.Sets.{beyond}
 use Rattle.card.specs.Layout.{identifier, head, body, objectTags}
 use Rattle.card.specs.Rules.{Entry, RowMet, AllMet, none-left, one-more}
-use Rattle.reader.specs.Reading.{freeOf}
+use Rattle.frame.specs.Frame.{freeOf}
 use Rattle.demands.proofs.Tables.{eight, withEight}
 
 -- ---- the row of the checksum

@@ -18,7 +18,8 @@ use Rattle.card.specs.Layout.{layout}
 use Rattle.card.specs.Rules.{objectRows, AllMet, Allowed, Meets}
 use Rattle.card.proofs.Records.{content-back}
 use Rattle.reader.specs.declared.Reading.{Reading}
-use Rattle.reader.specs.Reading.{Answer, accepted, refused, answer, answerOf, reading, startOf}
+use Rattle.frame.specs.Frame.{startOf}
+use Rattle.reader.specs.Reading.{Answer, accepted, refused, answer, answerOf, reading}
 use Rattle.writer.specs.Writing.{refusal, refusalOf, bufferAfter}
 use Rattle.demands.specs.Nested.{Nested, FirstUnmet}
 use Rattle.demands.specs.Demands.{Accepts, Refuses, LentEdition, LentRecord, readingNumbers, Demand1, Demand2, Demand3, Demands, libraryReader, libraryWriter}

@@ -15,8 +15,9 @@ use Rattle.card.specs.declared.Refusal.{Refusal}
 use Rattle.card.specs.Content.{Content}
 use Rattle.card.specs.Layout.{object, objectTags, layout}
 use Rattle.card.specs.Rules.{Entry, entries, objectRows, RowMet, AllMet, none-left, one-more, Fault, met, missing, length-out, byte-out, value-out, fault, Allowed}
-use Rattle.reader.specs.Walk.{Walked, stopped, push, walk}
-use Rattle.reader.specs.Reading.{accepted, refused, startOf, behind, templateOf, answer}
+use Rattle.objects.specs.Walk.{Walked, stopped, push, walk}
+use Rattle.frame.specs.Frame.{startOf, templateOf}
+use Rattle.reader.specs.Reading.{accepted, refused, behind, answer}
 use Rattle.demands.specs.Nested.{Within, NestedRows, no-rows, one-row, Nested, refusalAt, FirstUnmet, here, later}
 use Rattle.demands.proofs.WalkLaws.{unlessMet, appraise, fault-met, met-fault}
 use Rattle.demands.proofs.Tables.{withEight, Table, table-of, walk-values}

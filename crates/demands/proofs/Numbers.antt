@@ -18,7 +18,7 @@ use Rattle.card.specs.declared.Refusal.{Refusal}
 use Rattle.card.specs.Content.{Content}
 use Rattle.card.specs.Refusals.{refuse, none, gate}
 use Rattle.card.specs.Rules.{Entry, objectRows, Fault, met, missing, length-out, byte-out, value-out, fault}
-use Rattle.reader.specs.Walk.{Seen, absent, there, wrong, weighed, objectAt, passed, look, Walked, through, stopped, push, onward, tagsOf, walk}
+use Rattle.objects.specs.Walk.{Seen, absent, there, wrong, weighed, objectAt, passed, look, Walked, through, stopped, push, onward, tagsOf, walk}
 use Rattle.reader.specs.Reading as reading
 use Rattle.reader.specs.Reading.{Answer, accepted, refused, behind, answer}
 use Rattle.writer.specs.Writing as writing

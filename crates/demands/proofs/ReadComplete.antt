@@ -16,8 +16,9 @@ use Rattle.card.specs.Refusals.{gate}
 use Rattle.card.specs.Content.{Content}
 use Rattle.card.specs.Layout.{head, body, xorAll, templateLength, summed, filler, objectsOf, layout}
 use Rattle.card.specs.Rules.{entries, lastAllowed, namesFit, townFits, Allowed}
-use Rattle.reader.specs.Walk.{through, walk}
-use Rattle.reader.specs.Reading.{accepted, orBad, headEnd, fieldWrong, fieldOf, startOf, endOf, tailEnd, contentAt, behind, templateOf, answer}
+use Rattle.objects.specs.Walk.{through, walk}
+use Rattle.frame.specs.Frame.{headEnd, fieldWrong, fieldOf, startOf, endOf, tailEnd, templateOf}
+use Rattle.reader.specs.Reading.{accepted, orBad, contentAt, behind, answer}
 use Rattle.demands.proofs.WalkLaws.{appraise-met}
 use Rattle.demands.proofs.Tables.{Table, table-of, walk-values}
 use Rattle.demands.proofs.Fields.{Field, field-read}

@@ -18,8 +18,9 @@ use Rattle.card.specs.Content.{Content}
 use Rattle.card.specs.Fields.{lengthField}
 use Rattle.card.specs.Layout.{head, body, xorAll, templateLength, summed, filler, objectTags, layout}
 use Rattle.card.specs.Rules.{entries, objectRows, AllMet, firstAllowed, lastAllowed, namesFit, townFits, Allowed}
-use Rattle.reader.specs.Walk.{Walked, through, stopped, tagsOf, walk}
-use Rattle.reader.specs.Reading.{Answer, accepted, refused, orBad, freeOf, headEnd, startOf, endOf, tailEnd, isEmpty, contentAt, behind, templateOf, answer}
+use Rattle.objects.specs.Walk.{Walked, through, stopped, tagsOf, walk}
+use Rattle.frame.specs.Frame.{freeOf, headEnd, startOf, endOf, tailEnd, templateOf}
+use Rattle.reader.specs.Reading.{Answer, accepted, refused, orBad, isEmpty, contentAt, behind, answer}
 use Rattle.demands.proofs.WalkLaws.{sound}
 use Rattle.demands.proofs.Tables.{withEight, Table, table-of}
 use Rattle.demands.proofs.Fields.{sizeOf, FieldBack, field-back}

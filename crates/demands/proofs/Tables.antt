@@ -16,7 +16,7 @@ use Rattle.edition.proofs.Lists.{and-left}
 use Rattle.edition.proofs.Rows.{tags-distinct, formed-head, last-formed, set-within, permits-not-0}
 use Rattle.card.specs.Layout.{body, objectTags}
 use Rattle.card.specs.Rules.{Entry, entries, objectRows}
-use Rattle.reader.specs.Walk.{tagsOf, walk}
+use Rattle.objects.specs.Walk.{tagsOf, walk}
 use Rattle.demands.proofs.WalkLaws.{appraise, walk-body, positive}
 
 -- ---- row 8E is one row in every well-formed edition

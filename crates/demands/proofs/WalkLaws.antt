@@ -20,7 +20,7 @@ use Rattle.card.specs.declared.Refusal.{Refusal}
 use Rattle.card.specs.Refusals.{refuse, refuseLength}
 use Rattle.card.specs.Layout.{object, body}
 use Rattle.card.specs.Rules.{Entry, RowMet, AllMet, none-left, one-more, Fault, met, missing, length-out, byte-out, value-out, ofVerdict, fault}
-use Rattle.reader.specs.Walk.{Seen, absent, there, wrong, weighed, objectAt, passed, look, Walked, through, stopped, push, onward, tagsOf, walk}
+use Rattle.objects.specs.Walk.{Seen, absent, there, wrong, weighed, objectAt, passed, look, Walked, through, stopped, push, onward, tagsOf, walk}
 use Rattle.demands.specs.Nested.{refusalAt}
 
 -- ---- the values in card order: the walk stops at the first row that is not met

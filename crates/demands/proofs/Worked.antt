@@ -11,8 +11,9 @@ use Rattle.card.specs.Refusals.{gate}
 use Rattle.card.specs.Fields.{lengthField}
 use Rattle.card.specs.Layout.{identifier, head, body, xorAll, summed, template, spaces, lasts, filler, layout}
 use Rattle.card.specs.Rules.{entries, firstAllowed, lastAllowed, sumFits, namesFit, townFits}
-use Rattle.reader.specs.Walk.{weighed, objectAt, passed, look, push, onward, walk}
-use Rattle.reader.specs.Reading.{answer, orBad, freeOf, headEnd, fieldWrong, startOf, endOf, groupRefusal, tailEnd, contentAt, behind}
+use Rattle.objects.specs.Walk.{weighed, objectAt, passed, look, push, onward, walk}
+use Rattle.frame.specs.Frame.{freeOf, headEnd, fieldWrong, startOf, endOf, tailEnd}
+use Rattle.reader.specs.Reading.{answer, orBad, groupRefusal, contentAt, behind}
 use Rattle.demands.specs.Marked.{valuesS, cardOf, fullValues, cases, found}
 
 pub marked : map found cases ≡ cases

@@ -13,7 +13,8 @@ use Rattle.card.specs.Content.{contentOf, recordOf, emptyRecord}
 use Rattle.card.specs.Refusals.{none}
 use Rattle.card.specs.Rules.{objectRows, AllMet, Allowed, Meets}
 use Rattle.reader.specs.declared.Reading.{Reading}
-use Rattle.reader.specs.Reading.{reading, startOf}
+use Rattle.frame.specs.Frame.{startOf}
+use Rattle.reader.specs.Reading.{reading}
 use Rattle.writer.specs.Writing.{refusalOf, bufferAfter}
 use Rattle.demands.specs.Nested.{Nested, FirstUnmet}
 

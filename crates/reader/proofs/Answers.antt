@@ -13,21 +13,21 @@ use Rattle.edition.specs.declared.Edition.{Edition}
 use Rattle.edition.specs.declared.Formed.{Formed}
 use Rattle.edition.specs.declared.Formed.the-variants.{Well, Bad}
 use Rattle.edition.specs.Rows.{tags, formedFrom}
-use Rattle.edition.proofs.Lists.{and-left, and-right}
 use Rattle.card.specs.declared.Refusal.{Refusal}
-use Rattle.card.specs.declared.fields.LengthField.{LengthField}
-use Rattle.card.specs.declared.fields.LengthField.the-variants.{One, Other}
 use Rattle.card.specs.Refusals.{refuse, none, gate}
-use Rattle.card.specs.Fields.{lengthAt, secondByte, told}
 use Rattle.card.specs.Layout.{xorAll}
 use Rattle.card.specs.Rules.{entries, firstAllowed, lastAllowed}
-use Rattle.reader.specs.declared.objects.Listing.{Listing}
-use Rattle.reader.specs.Walk.{through, stopped, walk}
-use Rattle.reader.specs.Objects.{valuesAt, refusalOf, refusalAt, walked}
-use Rattle.reader.specs.Reading.{Answer, accepted, refused, orBad, headEnd, fieldWrong, fieldOf, startOf, endOf, tailEnd, isEmpty, contentAt, behind, templateOf, answer}
-use Rattle.reader.specs.Steps.{inputRefusal, badRow, frontRefusal, groupAt, namesListed, townListed, groupsRefusal, tailRefusal, Inside, Framed, orElse, listingRefusal, answered, imageAnswer}
-use Rattle.reader.proofs.Tables.{value-at}
-use Rattle.reader.proofs.Places.{Laid}
+use Rattle.frame.specs.Frame.{headEnd, fieldWrong, fieldOf, startOf, endOf, templateOf, tailEnd}
+use Rattle.frame.specs.Checks.{frontRefusal, tailRefusal, Framed}
+use Rattle.frame.proofs.Extents.{back-is}
+use Rattle.objects.specs.declared.Listing.{Listing}
+use Rattle.objects.specs.Walk.{through, stopped, walk}
+use Rattle.objects.specs.Objects.{valuesAt, refusalOf, refusalAt, walked}
+use Rattle.objects.specs.Groups.{groupAt, namesListed, townListed, groupsRefusal}
+use Rattle.objects.proofs.Tables.{value-at}
+use Rattle.objects.proofs.Places.{Laid}
+use Rattle.reader.specs.Reading.{Answer, accepted, refused, orBad, isEmpty, contentAt, behind, answer}
+use Rattle.reader.specs.Steps.{inputRefusal, badRow, Inside, orElse, listingRefusal, answered, imageAnswer}
 use Rattle.reader.proofs.Listed.{names-listed, town-listed, group-listed}
 
 -- ---- a refusal comes before any other answer
@@ -61,12 +61,13 @@ input-right e n z = go (eqb n 256) refl (formedFrom 0 (e .rows)) refl z
     go true t (Bad k) g z = absurd (omega arith)
 
 -- 3 and 4
-module _ (s : List ℕ) where
+module _ (s : List ℕ) (long : length s ≡ 256) where
   pub front-answered : (rows : List Row)
       → answered (frontRefusal s (fieldWrong (fieldOf s))) (behind s (walk (entries tags rows) (startOf s) (templateOf s))) ≡ imageAnswer rows s
   unfolding frontRefusal imageAnswer answered gate
   front-answered rows =
-      go (firstAllowed (getD s 0 0)) (eqb (headEnd s) 30) (eqb (getD s 30 0) 0x60) (eqb (fieldWrong (fieldOf s)) 0)
+      rw long
+      (go (firstAllowed (getD s 0 0)) (eqb (headEnd s) 30) (eqb (getD s 30 0) 0x60) (eqb (fieldWrong (fieldOf s)) 0))
     where
       go : (a b c d : Bool) → (let w = behind s (walk (entries tags rows) (startOf s) (templateOf s)) in
           answered (gate a (refuse 3 0 0) (gate b (refuse 3 (headEnd s) 0) (gate c (refuse 4 30 0) (gate d (refuse 4 (fieldWrong (fieldOf s)) 0) none)))) w
@@ -76,63 +77,6 @@ module _ (s : List ℕ) where
       go true true false d = refl
       go true true true false = refl
       go true true true true = refl
-
-  pub front-right : (wrong : ℕ) → frontRefusal s wrong .number ≡ 0 → wrong ≡ 0
-  unfolding frontRefusal gate
-  front-right wrong z = go (firstAllowed (getD s 0 0)) (eqb (headEnd s) 30) (eqb (getD s 30 0) 0x60) (eqb wrong 0) refl z
-    where
-      go : (a b c d : Bool) → eqb wrong 0 ≡ d
-          → gate a (refuse 3 0 0) (gate b (refuse 3 (headEnd s) 0) (gate c (refuse 4 30 0) (gate d (refuse 4 wrong 0) none))) .number ≡ 0 → wrong ≡ 0
-      go false b c d e z = absurd (omega arith)
-      go true false c d e z = absurd (omega arith)
-      go true true false d e z = absurd (omega arith)
-      go true true true false e z = absurd (omega arith)
-      go true true true true e z = eqb-true wrong 0 e
-
--- ---- where a right length field puts the template
-record Extent (f : LengthField) : Type 0 where
-  used : told f .used ≤ 2
-  least : 70 ≤ told f .length
-  most : told f .length ≤ 212
-
-passes : (q : Bool) (n : ℕ) → cond q 0 (suc n) ≡ 0 → q ≡ true
-passes true n e = refl
-passes false n e = absurd (omega arith)
-
-extent : (bs : List ℕ) → fieldWrong (lengthAt bs) ≡ 0 → Extent (lengthAt bs)
-unfolding fieldWrong
-extent [] e = absurd (omega arith)
-extent (b ∷ bs) e = go (leb b 127) refl (eqb b 0x81) bs e
-  where
-    go : (p : Bool) → leb b 127 ≡ p → (q : Bool) (bs : List ℕ) → fieldWrong (cond p (One b) (cond q (secondByte bs) (Other b))) ≡ 0
-        → Extent (cond p (One b) (cond q (secondByte bs) (Other b)))
-    go true p q bs e = record { used = omega arith; least = leb-true 70 b (passes (leb 70 b) 30 e); most = omega (arith, leb-true b 127 p) }
-    go false p false bs e = absurd (omega arith)
-    go false p true [] e = absurd (omega arith)
-    go false p true (n ∷ bs) e =
-        let t = passes (leb 128 n && leb n 212) 31 e in
-        record {
-          used = omega arith;
-          least = omega (arith, leb-true 128 n (and-left (leb 128 n) (leb n 212) t));
-          most = leb-true n 212 (and-right (leb 128 n) (leb n 212) t);
-        }
-
-module _ (s : List ℕ) (long : length s ≡ 256) (right : fieldWrong (fieldOf s) ≡ 0) where
-  pub framed : Framed s (endOf s)
-  unfolding endOf startOf
-  framed =
-      let x = extent (drop 31 s) right in
-      record { long = long; is = refl; least = omega arith; most = omega (arith, x .used, x .most) }
-
-  pub ordered : startOf s ≤ endOf s
-  unfolding endOf
-  ordered = omega arith
-
-  pub template-is : templateOf s ≡ take (endOf s - startOf s) (drop (startOf s) s)
-  unfolding endOf
-  template-is =
-      let same : told (fieldOf s) .length ≡ startOf s + told (fieldOf s) .length - startOf s = omega arith in
-      ap (λ (n : ℕ). take n (drop (startOf s) s)) same
 
 -- ---- what is left behind the objects
 empty-zero : (bs : List ℕ) → isEmpty bs ≡ eqb (length bs) 0
@@ -175,7 +119,8 @@ tail-answered s w = go (eqb (getD s (endOf s - 1) 0) (xorAll (take (endOf s - 31
     go true true true = refl
 
 -- ---- the objects and what is behind them
-module _ (s : List ℕ) (rows : List Row) (l : Listing) (f : Framed s (endOf s)) (w : Laid s (startOf s) (endOf s) l) where
+module _ (s : List ℕ) (rows : List Row) (l : Listing) (f : Framed s (endOf s)) (right : fieldWrong (fieldOf s) ≡ 0)
+    (w : Laid s (startOf s) (endOf s) l) where
   abbrev values : List (List ℕ)
   values = valuesAt s (l .starts) (l .lengths)
 
@@ -226,7 +171,7 @@ module _ (s : List ℕ) (rows : List Row) (l : Listing) (f : Framed s (endOf s))
 
   pub listing-answered : answered (listingRefusal s rows l) content ≡ behind s (walked s (endOf s) rows l)
   unfolding listingRefusal walked gate behind
-  listing-answered = go (eqb (l .number) 0) refl (eqb (l .at) (endOf s)) refl
+  listing-answered = rw (back-is s (f .long) right) (go (eqb (l .number) 0) refl (eqb (l .at) (endOf s)) refl)
     where
       go : (p : Bool) → eqb (l .number) 0 ≡ p → (q : Bool) → eqb (l .at) (endOf s) ≡ q
           → answered (gate p (refusalAt rows l) (gate q (refuse 12 (l .at) 0) (orElse (groupsRefusal (l .starts) (l .lengths)) (tailRefusal s)))) content

@@ -1,5 +1,5 @@
 -- What an inspection says of the answer. Assumes nothing.
-use Prim.Native.Nat.{ℕ, _≤_}
+use Prim.Native.Nat.{ℕ}
 use native.Mathlib.Omega.{arith}
 use mathlib.Core.Path.{_≡_, sym, ap, _∙_}
 use mathlib.Core.List.{List}
@@ -11,17 +11,20 @@ use Rattle.card.specs.declared.Refusal.{Refusal}
 use Rattle.card.specs.Refusals.{none}
 use Rattle.card.specs.Content.{recordOf, emptyRecord}
 use Rattle.card.specs.Rules.{entries}
+use Rattle.frame.specs.declared.Front.{Front}
+use Rattle.frame.specs.Frame.{fieldWrong, fieldOf, startOf, endOf, templateOf}
+use Rattle.frame.specs.Checks.{frontRefusal, frontOf}
+use Rattle.frame.proofs.Extents.{front-right, framed, ordered, template-is}
+use Rattle.objects.specs.declared.Listing.{Listing}
+use Rattle.objects.specs.Walk.{walk}
+use Rattle.objects.specs.Objects.{listFrom, listed, valuesAt}
+use Rattle.objects.proofs.Finds.{listed-within}
+use Rattle.objects.proofs.Places.{Laid, laid}
+use Rattle.objects.proofs.Bridge.{bridge}
 use Rattle.reader.specs.declared.Inspection.{Inspection}
-use Rattle.reader.specs.declared.field.Span.{Span}
-use Rattle.reader.specs.declared.objects.Listing.{Listing}
-use Rattle.reader.specs.Walk.{walk}
-use Rattle.reader.specs.Objects.{listFrom, valuesAt}
-use Rattle.reader.specs.Reading.{Answer, refused, fieldWrong, fieldOf, startOf, endOf, behind, templateOf, contentAt, answerOf}
-use Rattle.reader.specs.Steps.{spanOf, frontRefusal, TagsInside, Framed, listingRefusal, answered, imageAnswer, Inspected}
-use Rattle.reader.proofs.Places.{Laid, laid}
-use Rattle.reader.proofs.Bridge.{bridge}
-use Rattle.reader.proofs.Listed.{tags-inside}
-use Rattle.reader.proofs.Answers.{answered-refused, answered-none, front-answered, front-right, framed, ordered, template-is, listing-answered, values-inside}
+use Rattle.reader.specs.Reading.{Answer, refused, behind, contentAt, answerOf}
+use Rattle.reader.specs.Steps.{listingRefusal, answered, imageAnswer, Inspected}
+use Rattle.reader.proofs.Answers.{answered-refused, answered-none, front-answered, listing-answered, values-inside}
 
 -- a check has refused: its answer y is the refusal x that comes first
 pub refused-inspected : (a : Answer) (s : List ℕ) (r : Inspection) (x y : Refusal) (w : Answer) → answered x w ≡ a → y ≡ x → (y .number ≡ 0 → ⊥) → r .refusal ≡ y → Inspected a s r
@@ -35,58 +38,46 @@ refused-inspected a s r x y w is same some kept =
       inside = λ z. absurd (never z);
     }
 
+pub front-refusal : (s : List ℕ) (front : Front) → front ≡ frontOf s → front .refusal ≡ frontRefusal s (fieldWrong (fieldOf s))
+unfolding frontOf
+front-refusal s front is = ap (λ (x : Front). x .refusal) is
+
+pub front-end : (s : List ℕ) (front : Front) → front ≡ frontOf s → front .end ≡ endOf s
+unfolding frontOf
+front-end s front is = ap (λ (x : Front). x .end) is
+
 -- nothing is refused before the objects
-pub record Fronted (s : List ℕ) (span : Span) : Type 0 where
-  pub start : span .start ≡ startOf s
-  pub end : span .end ≡ endOf s
-  pub front : frontRefusal s (fieldWrong (fieldOf s)) .number ≡ 0
+module _ (s : List ℕ) (front : Front) (long : length s ≡ 256) (is : front ≡ frontOf s) (none : front .refusal .number ≡ 0) where
+  passed : frontRefusal s (fieldWrong (fieldOf s)) .number ≡ 0
+  passed = ap (λ (x : Refusal). x .number) (sym (front-refusal s front is)) ∙ none
 
-pub front-is : (s : List ℕ) (span : Span) (x : Refusal) → span ≡ spanOf (fieldOf s) → x ≡ frontRefusal s (span .wrong) → x ≡ frontRefusal s (fieldWrong (fieldOf s))
-unfolding spanOf
-front-is s span x e f = rw e at f
-
-pub fronted : (s : List ℕ) (span : Span) (x : Refusal) → span ≡ spanOf (fieldOf s) → x ≡ frontRefusal s (span .wrong) → x .number ≡ 0 → Fronted s span
-unfolding spanOf startOf endOf
-fronted s span x e f z = record {
-  start = rw e;
-  end = rw e;
-  front = ap (λ (y : Refusal). y .number) (sym (front-is s span x e f)) ∙ z;
-}
-
-module _ (s : List ℕ) (span : Span) (long : length s ≡ 256) (h : Fronted s span) where
   right : fieldWrong (fieldOf s) ≡ 0
-  right = front-right s (fieldWrong (fieldOf s)) (h .front)
-
-  pub span-framed : Framed s (span .end)
-  span-framed = rw (h .end) (framed s long right)
-
-  pub span-ordered : span .start ≤ span .end
-  span-ordered = rw (h .start, h .end) (ordered s long right)
+  right = front-right s (fieldWrong (fieldOf s)) passed
 
   module _ (rows : List Row) (seventeen : length rows ≡ 17) (formed : formedFrom 0 rows ≡ Well)
-      (l : Listing) (is : l ≡ listFrom s (span .end) 0 rows (span .start) (replicate 17 0) (replicate 17 0)) where
-    listed : l ≡ listFrom s (endOf s) 0 rows (startOf s) (replicate 17 0) (replicate 17 0)
-    listed = rw (h .start, h .end) at is
+      (l : Listing) (lists : l ≡ listed s rows (front .start) (front .end)) where
+    walks : l ≡ listFrom s (endOf s) 0 rows (startOf s) (replicate 17 0) (replicate 17 0)
+    unfolding frontOf
+    walks =
+        let f = framed s long right in
+        rw is at lists ∙ listed-within s rows (startOf s) (endOf s) (ordered s long right) (omega (arith, f .most)) (omega (arith, f .long, f .most))
 
     laid-here : Laid s (startOf s) (endOf s) l
     laid-here =
         let f = framed s long right in
-        rw listed (laid s rows (startOf s) (endOf s) seventeen formed (ordered s long right) (omega (arith, f .long, f .most)))
-
-    pub tags-here : l .number ≡ 0 → TagsInside (l .starts) (l .lengths)
-    tags-here = tags-inside s (startOf s) (endOf s) l laid-here
+        rw walks (laid s rows (startOf s) (endOf s) seventeen formed (ordered s long right) (omega (arith, f .long, f .most)))
 
     answer-here : behind s (walk (entries tags rows) (startOf s) (templateOf s)) ≡ imageAnswer rows s
-    answer-here = sym (answered-none (frontRefusal s (fieldWrong (fieldOf s))) _ (h .front)) ∙ front-answered s rows
+    answer-here = sym (answered-none (frontRefusal s (fieldWrong (fieldOf s))) _ passed) ∙ front-answered s long rows
 
     pub listing-inspected : (x : Refusal) → x ≡ listingRefusal s rows l → Inspected (imageAnswer rows s) s (record { refusal = x; starts = l .starts; lengths = l .lengths })
     listing-inspected x e =
         let f = framed s long right in
-        let walks = bridge s rows (startOf s) (endOf s) seventeen (ordered s long right) (omega (arith, f .long, f .most)) in
+        let same = bridge s rows (startOf s) (endOf s) seventeen (ordered s long right) (omega (arith, f .long, f .most)) in
         record {
-          is = rw e (listing-answered s rows l f laid-here ∙ rw (listed, ← walks, ← template-is s long right) answer-here);
+          is = rw e (listing-answered s rows l f right laid-here ∙ rw (walks, ← same, ← template-is s long right) answer-here);
           long = λ z. long;
-          inside = λ z. values-inside s rows l f laid-here;
+          inside = λ z. values-inside s rows l f right laid-here;
         }
 
 -- ---- an inspection gives the reading

@@ -10,23 +10,18 @@ use lib.ListN.{length, getD, take, drop, length-take, length-drop, length-map, L
 use lib.Seq.{getD-take, getD-drop, take-take, ext-getD}
 use Rattle.edition.specs.Lists.{leading}
 use Rattle.edition.specs.Rows.{tags, tagOf}
-use Rattle.edition.proofs.Lists.{leading-most, leading-at}
+use Rattle.edition.proofs.Lists.{leading-at}
 use Rattle.card.specs.Refusals.{refuse}
 use Rattle.card.specs.Layout.{body}
 use Rattle.card.specs.Rules.{lengthOf, namesFit, townFits, isAbsent, firstPresent}
-use Rattle.reader.specs.declared.objects.Listing.{Listing}
-use Rattle.reader.specs.Objects.{valuesAt}
+use Rattle.objects.specs.declared.Listing.{Listing}
+use Rattle.objects.specs.Objects.{valuesAt}
+use Rattle.objects.specs.Groups.{isZero, firstListed, groupAt, namesListed, townListed}
+use Rattle.objects.proofs.Tables.{values-length}
+use Rattle.objects.proofs.FirstListed.{listed-most}
+use Rattle.objects.proofs.Places.{Laid}
 use Rattle.reader.specs.Reading.{groupRefusal}
-use Rattle.reader.specs.Steps.{isZero, firstListed, groupAt, namesListed, townListed, TagsInside}
-use Rattle.reader.proofs.Tables.{values-length}
-use Rattle.reader.proofs.Places.{Laid}
 use Rattle.reader.proofs.Copies.{map-take, map-drop}
-
-pub listed-most : (ns : List ℕ) (k : ℕ) → k ≤ 16 → firstListed k ns ≤ 16
-listed-most ns k h =
-    let m = leading-most isZero (drop k (take 16 ns)) in
-    let d = length-drop k (take 16 ns) in
-    omega (arith, length-take 16 ns)
 
 -- where the checksum is there, the first row listed has a length: it is one of the sixteen, or that of the checksum
 listed-some : (ns : List ℕ) (k : ℕ) → length ns ≡ 17 → k ≤ 16 → getD ns 16 0 ≡ 1 → 0 < getD ns (firstListed k ns) 0
@@ -96,7 +91,3 @@ module _ (s : List ℕ) (from end : ℕ) (l : Listing) (w : Laid s from end l) w
         let tag = tag-first in
         rw (first-same k, take-take (firstListed k (l .lengths)) 16 values (listed-most (l .lengths) k h))
         (ap (λ (x : ℕ). refuse 11 x (tagOf (firstListed k (l .lengths)))) (omega arith))
-
-  -- the first object present has its tag before it
-  pub tags-inside : l .number ≡ 0 → TagsInside (l .starts) (l .lengths)
-  tags-inside z k h = let tag = tag-first z k h in omega arith

@@ -1,22 +1,13 @@
 // The reader.
 mod checks;
-mod field;
-mod groups;
-mod head;
-mod objects;
 mod record;
-mod refusals;
-mod tail;
 
 use card::Record;
 use card::Refusal;
-use checks::check_front;
 use checks::check_input;
 use checks::check_listing;
 use edition::Edition;
 use edition::Row;
-use field::read_span;
-use objects::list_objects;
 use record::copy_record;
 ghost use mathlib.Core.Path.{_≡_};
 ghost use lib.ListN.{length};
@@ -33,8 +24,8 @@ pub struct Reading {
 // The refusal; or, where its number is 0, where each row's value starts and how long it is.
 pub(crate) struct Inspection {
     pub refusal: Refusal,
-    pub starts: [usize; 17],
-    pub lengths: [usize; 17],
+    pub starts: [u8; 17],
+    pub lengths: [u8; 17],
 }
 
 fn list_none(refusal: Refusal) -> Inspection
@@ -52,13 +43,13 @@ fn inspect_image(rows: [Row; 17], image: &[u8]) -> Inspection
     requires { ⌜ (length (now image) ≡ 256) × (formedFrom 0 rows ≡ Well) ⌝ }
     ensures { λ r. ⌜ Inspected (imageAnswer rows (now (image .entry))) (now (image .entry)) r ⌝ }
 {
-    let span = read_span(image);
-    let refusal = check_front(image, span.wrong);
+    let front = frame::check_front(image);
+    let refusal = front.refusal;
     if refusal.number != 0 {
         return list_none(refusal);
     }
-    let end = span.end;
-    let listing = list_objects(image, rows, span.start, end);
+    let end = front.end;
+    let listing = objects::list_objects(image, rows, front.start, end);
     let starts = listing.starts;
     let lengths = listing.lengths;
     Inspection {

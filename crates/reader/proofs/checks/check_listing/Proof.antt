@@ -19,26 +19,26 @@ new-requires c κs = search needs
 returns-2 : tie.Need-returns-2
 unfolding listingRefusal gate
 returns-2 c =
-    let f = c .before .before .before .before .pre .0 in
-    rw (c .before .before .if1 .left, ← f .is, ne-eqb _ _ (c .before .if2 .taken)) (c .new .ensures)
+    let f = c .before .before .before .before .pre in
+    rw (c .before .before .if1 .left, ← f, ne-eqb _ _ (c .before .if2 .taken)) (c .new .ensures)
 
 check-groups-requires : tie.Need-check-groups-requires
-check-groups-requires c κs = c .before .before .before .before .before .pre .1 (c .before .before .before .if1 .left)
+check-groups-requires c κs = search needs
 
 returns-3 : tie.Need-returns-3
 unfolding listingRefusal gate
 returns-3 c =
-    let f = c .before .before .before .before .before .before .before .before .pre .0 in
-    rw (c .before .before .before .before .before .before .if1 .left, ← f .is, eq-eqb _ _ (c .before .before .before .before .before .if2 .left), ← c .before .before .check-groups .ensures, ne-eqb _ _ (c .if3 .taken))
+    let f = c .before .before .before .before .before .before .before .before .pre in
+    rw (c .before .before .before .before .before .before .if1 .left, ← f, eq-eqb _ _ (c .before .before .before .before .before .if2 .left), ← c .before .before .check-groups .ensures, ne-eqb _ _ (c .if3 .taken))
 
-check-tail-requires : tie.Need-check-tail-requires
-check-tail-requires c κs = search needs
+check-back-requires : tie.Need-check-back-requires
+check-back-requires c κs = search needs
 
 returns-4 : tie.Need-returns-4
 unfolding listingRefusal gate
 returns-4 c =
-    let f = c .before .before .before .before .before .before .before .before .before .pre .0 in
-    rw (c .before .before .before .before .before .before .before .if1 .left, ← f .is, eq-eqb _ _ (c .before .before .before .before .before .before .if2 .left), ← c .before .before .before .check-groups .ensures, c .before .if3 .left) (c .check-tail .ensures)
+    let f = c .before .before .before .before .before .before .before .before .before .pre in
+    rw (c .before .before .before .before .before .before .before .if1 .left, ← f, eq-eqb _ _ (c .before .before .before .before .before .before .if2 .left), ← c .before .before .before .check-groups .ensures, c .before .if3 .left) (c .check-back .ensures)
 
 pub check-listing-spec : {M : Type 1} → statement M
 check-listing-spec =
@@ -50,5 +50,5 @@ check-listing-spec =
     returns-2
     check-groups-requires
     returns-3
-    check-tail-requires
+    check-back-requires
     returns-4)

@@ -1,0 +1,66 @@
+-- The fixed bytes, part by part. Assumes nothing.
+use Prim.Native.Nat.{ℕ, _+_, _≤_, _<_}
+use native.Mathlib.Omega.{arith}
+use borrow.Author.Tests.{eq-eqb}
+use mathlib.Core.Path.{_≡_, refl, _∙_}
+use mathlib.Core.List.{List, [], _∷_, _++_}
+use lib.ListN.{length, getD, take, drop, length-take, length-drop, length-append}
+use lib.Seq.{drop-cons, take-at, drop-at}
+use Rattle.edition.specs.Lists.{agree}
+use Rattle.card.specs.Layout.{identifier, head}
+use Rattle.frame.specs.Frame.{freeOf, headEnd}
+use Rattle.frame.proofs.Runs.{agree-cut, agree-own, run-passes}
+
+-- the fixed bytes, and what follows each part of them
+abbrev pub chip : List ℕ
+chip = 0x13 ∷ 0x10 ∷ 0x91 ∷ 0x46 ∷ 0x0B ∷ []
+
+abbrev pub application : List ℕ
+application = 0x61 ∷ 0x0B ∷ 0x4F ∷ 0x06 ∷ []
+
+abbrev pub body : List ℕ
+body = 0x53 ∷ 0x01 ∷ []
+
+abbrev free : List ℕ → List ℕ
+free s = take 11 (drop 6 s)
+
+abbrev pub last : List ℕ → List ℕ
+last s = getD s 29 0 ∷ []
+
+abbrev pub behindIdentifier : List ℕ → List ℕ
+behindIdentifier s = body ++ last s
+
+abbrev pub behindApplication : List ℕ → List ℕ
+behindApplication s = identifier ++ behindIdentifier s
+
+abbrev pub behindChip : List ℕ → List ℕ
+behindChip s = free s ++ (application ++ behindApplication s)
+
+first-right : (s ys : List ℕ) → 0 < length s → agree (getD s 0 0 ∷ ys) s ≡ 1 + agree ys (drop 1 s)
+unfolding agree
+first-right [] ys h = absurd (omega arith)
+first-right (x ∷ s) ys h = rw (eq-eqb x x refl) (omega arith)
+
+module _ (s : List ℕ) (long : 30 ≤ length s) where
+  free-long : length (free s) ≡ 11
+  free-long = simp (length-take, length-drop) (omega arith)
+
+  head-long : length (head (getD s 0 0) (freeOf s)) ≤ 30
+  unfolding head freeOf identifier
+  head-long = simp (length-append, length-take, length-drop) (omega arith)
+
+  pub from-chip : headEnd s ≡ 1 + agree (chip ++ behindChip s) (drop 1 s)
+  unfolding headEnd head freeOf
+  from-chip =
+      agree-cut 30 (head (getD s 0 0) (freeOf s)) s head-long
+      ∙ rw (take-at (free s) (last s) 11 free-long, drop-at (free s) (last s) 11 free-long) (first-right s _ (omega arith))
+
+  -- the free bytes are as they stand
+  pub over-free : 6 + agree (behindChip s) (drop 6 s) ≡ 17 + agree (application ++ behindApplication s) (drop 17 s)
+  over-free =
+      let own = agree-own 11 (drop 6 s) in
+      rw free-long at (run-passes s 6 (free s) (application ++ behindApplication s) (omega arith))
+
+  pub over-last : 29 + agree (last s) (drop 29 s) ≡ 30
+  unfolding agree
+  over-last = rw (drop-cons s 29 0 long, eq-eqb (getD s 29 0) (getD s 29 0) refl)

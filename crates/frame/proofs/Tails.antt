@@ -1,0 +1,111 @@
+-- The filler and the last bytes, part by part. Assumes nothing.
+use Prim.Native.Nat.{ℕ, zero, suc, _+_, _-_, _≤_, _<_}
+use native.Mathlib.Nat.{add-zero}
+use native.Mathlib.Omega.{arith}
+use mathlib.Core.Path.{_≡_, sym, ap, _∙_}
+use mathlib.Core.List.{List, _∷_, _++_}
+use lib.ListN.{length, getD, take, drop, replicate, length-take, length-drop, length-replicate}
+use lib.Seq.{getD-drop}
+use Rattle.edition.specs.Lists.{agree}
+use Rattle.card.specs.Fields.{lengthField}
+use Rattle.card.specs.Layout.{spaces, lasts, filler}
+use Rattle.card.proofs.Room.{room}
+use Rattle.frame.proofs.Runs.{agree-short, agree-over, agree-none, agree-all, part-stops, part-passes, part-to-end}
+use Rattle.frame.specs.Frame.{tailEnd}
+use Rattle.frame.specs.Checks.{Framed}
+
+-- a part behind a template, its n spaces beginning at `start`
+pub record Placed (p : List ℕ) (n start : ℕ) : Type 0 where
+  pub least : 3 ≤ length p
+  pub most : length p ≤ 256
+  pub n-is : n ≡ spaces (length p - 1)
+  pub start-is : start ≡ 1 + length (lengthField n)
+
+pub record Sizes (p : List ℕ) (n start : ℕ) : Type 0 where
+  pub small : n ≤ 255
+  pub lead : start ≤ 3
+  pub some : start + n < length p
+  pub ends : start + n + lasts (length p - 1) ≡ length p
+  pub two : lasts (length p - 1) ≤ 2
+
+pub sizes : (p : List ℕ) (n start : ℕ) → Placed p n start → Sizes p n start
+sizes p n start w =
+    let l = w .least in
+    let m = w .most in
+    let r = room (length p - 1) (omega arith) (omega arith) in
+    let f = ap (λ (x : ℕ). length (lengthField x)) (w .n-is) in
+    record {
+      small = omega (arith, r .small, w .n-is);
+      lead = omega (arith, r .field, w .start-is);
+      some = omega (arith, r .some, r .whole, w .n-is, w .start-is);
+      ends = omega (arith, r .whole, w .n-is, w .start-is);
+      two = r .two;
+    }
+
+abbrev lastOf : List ℕ → ℕ
+lastOf p = getD p (length p - 1) 0
+
+abbrev endsOf : List ℕ → List ℕ
+endsOf p = replicate (lasts (length p - 1)) (lastOf p)
+
+abbrev pub tail : List ℕ → ℕ
+tail p = agree (filler (length p - 1) (lastOf p)) p
+
+module _ (p : List ℕ) (n start : ℕ) (w : Placed p n start) {m : ℕ} (led : m ≡ agree (0xC0 ∷ lengthField n) p) where
+  filler-is : filler (length p - 1) (lastOf p) ≡ (0xC0 ∷ lengthField n) ++ (replicate n 0x20 ++ endsOf p)
+  unfolding filler
+  filler-is = rw (w .n-is)
+
+  pub lead-stops : m < start → m ≡ tail p
+  lead-stops h = rw (filler-is) (led ∙ sym (agree-short (0xC0 ∷ lengthField n) (replicate n 0x20 ++ endsOf p) p (omega (arith, w .start-is))))
+
+  module _ (passed : start ≤ m) where
+    at-spaces : tail p ≡ start + agree (replicate n 0x20 ++ endsOf p) (drop start p)
+    at-spaces =
+        let same : start ≡ length (0xC0 ∷ lengthField n) = omega (arith, w .start-is) in
+        rw (filler-is, same) (agree-over (0xC0 ∷ lengthField n) (replicate n 0x20 ++ endsOf p) p (omega arith))
+
+    module _ {r : ℕ} (ran : r ≡ agree (replicate (length (take (start + n - start) (drop start p))) 0x20) (take (start + n - start) (drop start p))) where
+      counted : r ≡ agree (replicate n 0x20) (take (start + n - start) (drop start p))
+      counted =
+          let z = sizes p n start w .some in
+          let long : length (take (start + n - start) (drop start p)) ≡ n = simp (length-take, length-drop) (omega arith) in
+          rw long at ran
+
+      pub spaces-stop : r < n → start + r ≡ tail p
+      spaces-stop h =
+          let l = length-replicate {A = ℕ} n 0x20 in
+          part-stops p start (start + n - start) (replicate n 0x20) (endsOf p) counted (omega arith) (omega arith) ∙ sym at-spaces
+
+      at-ends : n ≤ r → tail p ≡ start + n + agree (endsOf p) (drop (start + n) p)
+      at-ends h =
+          let l = length-replicate {A = ℕ} n 0x20 in
+          at-spaces ∙ rw l at (part-passes p start (start + n - start) (replicate n 0x20) (endsOf p) counted (omega arith) (omega arith))
+
+      pub ends-differ : n ≤ r → (getD p (start + n) 0 ≡ lastOf p → ⊥) → start + n ≡ tail p
+      ends-differ h d =
+          let z = sizes p n start w in
+          let here = getD-drop (start + n) p 0 0 ∙ ap (λ (x : ℕ). getD p x 0) (add-zero (start + n)) in
+          let none = agree-none (lasts (length p - 1)) (lastOf p) (drop (start + n) p) (λ e. d (sym here ∙ e)) in
+          omega (arith, at-ends h)
+
+      pub ends-same : n ≤ r → getD p (start + n) 0 ≡ lastOf p → length p ≡ tail p
+      ends-same h e =
+          let z = sizes p n start w in
+          let all = agree-all (lasts (length p - 1)) (lastOf p) (drop (start + n) p) (simp length-drop (omega (arith, z .ends))) (λ i l. getD-drop (start + n) p i 0 ∙ each z i l) in
+          omega (arith, at-ends h, z .ends)
+        where
+          each : Sizes p n start → (i : ℕ) → i < lasts (length p - 1) → getD p (start + n + i) 0 ≡ lastOf p
+          each z zero l = ap (λ (x : ℕ). getD p x 0) (add-zero (start + n)) ∙ e
+          each z (suc i) l = ap (λ (x : ℕ). getD p x 0) (omega (arith, z .ends, z .two))
+
+-- the part behind the template, as the answer has it
+pub tail-found : (s : List ℕ) (end n : ℕ) → Framed s end → n ≡ tail (take (length s - end) (drop end s)) → end + n ≡ tailEnd s
+unfolding tailEnd
+tail-found s end n w e =
+    let long = w .long in
+    let most = w .most in
+    let size : length (drop end s) - 1 ≡ 255 - end = rw (length-drop, long) (omega arith) in
+    let place : end + (255 - end) ≡ 255 = omega arith in
+    let last : getD (drop end s) (255 - end) 0 ≡ getD s 255 0 = getD-drop end s (255 - end) 0 ∙ ap (λ (x : ℕ). getD s x 0) place in
+    ap (λ (x : ℕ). end + x) (rw (part-to-end end s, size, last) at e) ∙ rw (w .is)

@@ -1,0 +1,16 @@
+-- `frame::tail::lead_size` meets its contract. Assumes nothing.
+use borrow.Author.Tests.{le-leb, lt-leb}
+use Rattle.card.specs.Fields.{lengthField}
+use Rattle.frame.proofs.tail.lead_size.Statement.{statement}
+use Rattle.frame.proofs.tail.lead_size.Tie as tie
+
+returns : tie.Need-returns
+unfolding lengthField
+returns c = rw (le-leb _ _ (c .if1 .taken))
+
+returns-2 : tie.Need-returns-2
+unfolding lengthField
+returns-2 c = rw (lt-leb _ _ (c .if1 .left))
+
+pub lead-size-spec : {M : Type 1} → statement M
+lead-size-spec = tie.close (tie.spec returns returns-2)

@@ -1,0 +1,3 @@
+-- What stands around the objects of a card.
+pub mod Frame
+pub mod Checks
