@@ -7,17 +7,17 @@ use mathlib.Core.List.{List, [], _∷_, _++_}
 use lib.ListN.{length, take, drop, getD, replicate}
 use lib.Dec.{leb, ltb, eqb, lit<, lit≤}
 use borrow.Author.Tests.{eqb-true, leb-true, ltb-true, ne-eqb}
-use Rattle.edition.specs.declared.Rule.{Rule}
-use Rattle.edition.specs.declared.Rule.the-variants.{Digits, Text, Lead, Code, Birth, Expiry, Raw}
+use Rattle.rules.specs.declared.Rule.{Rule}
+use Rattle.rules.specs.declared.Rule.the-variants.{Digits, Text, Lead, Code, Birth, Expiry, Raw}
 use Rattle.edition.specs.declared.Row.{Row}
 use Rattle.edition.specs.declared.Edition.{Edition}
 use Rattle.edition.specs.declared.Formed.the-variants.{Well}
-use Rattle.edition.specs.declared.values.Verdict.the-variants.{Takes}
-use Rattle.edition.specs.Lists.{among}
-use Rattle.edition.specs.Values.{within, isDigit, isText, takes, judged}
+use Rattle.rules.specs.declared.values.Verdict.the-variants.{Takes}
+use Rattle.rules.specs.Lists.{among}
+use Rattle.rules.specs.Values.{within, isDigit, isText, takes, judged}
 use Rattle.edition.specs.Rows.{tags, setFormed, byRule, rowFormed, formedFrom}
-use Rattle.edition.proofs.Lists.{true-false, and-left, and-right, leading-before}
-use Rattle.edition.proofs.Verdicts.{taken-means}
+use Rattle.rules.proofs.Lists.{true-false, and-left, and-right, leading-before}
+use Rattle.rules.proofs.Verdicts.{taken-means}
 use Rattle.edition.proofs.Rows.{formed-head, row-within, permits-most}
 use Rattle.card.specs.Content.{Content}
 use Rattle.card.specs.Fields.{lengthField}

@@ -8,11 +8,11 @@ use lib.ListN.{length, drop, getD}
 use Rattle.edition.specs.declared.Row.{Row}
 use Rattle.edition.specs.declared.Edition.{Edition}
 use Rattle.edition.specs.declared.Formed.the-variants.{Well}
-use Rattle.edition.specs.declared.values.Verdict.{Verdict}
-use Rattle.edition.specs.declared.values.Verdict.the-variants.{Takes, Outside, Breaks}
-use Rattle.edition.specs.Lists.{leading}
+use Rattle.rules.specs.declared.values.Verdict.{Verdict}
+use Rattle.rules.specs.declared.values.Verdict.the-variants.{Takes, Outside, Breaks}
+use Rattle.rules.specs.Lists.{leading}
 use Rattle.edition.specs.Sets.{permitted}
-use Rattle.edition.specs.Values.{judged}
+use Rattle.rules.specs.Values.{judged}
 use Rattle.edition.specs.Rows.{formedFrom}
 use Rattle.card.specs.Content.{Content}
 use Rattle.card.specs.Layout.{objectTags, objectsOf, templateLength, layout}

@@ -1,7 +1,7 @@
 -- No second answer: two answers, and two buffers, that meet a public function's contract for one input are the same. Assumes nothing.
 use mathlib.Core.Path.{_≡_, sym, _∙_}
 use denote.Ref.{now}
-use Rattle.edition.proofs.Verdicts
+use Rattle.rules.proofs.Verdicts
 use Rattle.edition.proofs.Rows
 use Rattle.card.proofs.Forms
 use Rattle.edition.proofs.Edition.terminal.Reads as terminal
@@ -11,7 +11,7 @@ use Rattle.edition.proofs.tag_of.Reads as tag-of
 use Rattle.edition.proofs.permits.Reads as permits
 use Rattle.edition.proofs.shortest.Reads as shortest
 use Rattle.edition.proofs.longest.Reads as longest
-use Rattle.edition.proofs.judge.Reads as judge
+use Rattle.rules.proofs.judge.Reads as judge
 use Rattle.card.proofs.Record.empty.Reads as empty
 use Rattle.card.proofs.Refusal.new.Reads as new
 use Rattle.card.proofs.Refusal.of_length.Reads as of-length
@@ -29,6 +29,8 @@ use Rattle.objects.proofs.list_objects.Reads as list-objects
 use Rattle.objects.proofs.refuse_object.Reads as refuse-object
 use Rattle.objects.proofs.check_groups.Reads as check-groups
 use Rattle.reader.proofs.read.Reads as read
+use Rattle.checks.proofs.check.Reads as check
+use Rattle.checks.proofs.objects_size.Reads as objects-size
 use Rattle.writer.proofs.write.Reads as write
 use Rattle.listing.proofs.list.Reads as list
 use Rattle.kvk.proofs.kvk_read.Reads as kvk-read
@@ -101,6 +103,12 @@ check-groups-once κs a z y e f p q = p ∙ sym q
 
 pub read-once : (κs : _) (a : _) (z y : _) (e f : _) → read.Post κs a z e → read.Post κs a y f → z ≡ y
 read-once κs a z y e f p q = p ∙ sym q
+
+pub check-once : (κs : _) (a : _) (z y : _) (e f : _) → check.Post κs a z e → check.Post κs a y f → z ≡ y
+check-once κs a z y e f p q = p ∙ sym q
+
+pub objects-size-once : (κs : _) (a : _) (z y : _) (e f : _) → objects-size.Post κs a z e → objects-size.Post κs a y f → z ≡ y
+objects-size-once κs a z y e f p q = p .1 ∙ sym (q .1)
 
 -- an enum that is told alike is the same
 pub formed-once : (κs : _) (a : _) (z y : _) (e f : _) → formed.Post κs a z e → formed.Post κs a y f → z ≡ y

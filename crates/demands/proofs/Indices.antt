@@ -8,15 +8,15 @@ use Rattle.edition.specs.declared.Edition.{Edition}
 use Rattle.edition.specs.declared.Row.{Row}
 use Rattle.edition.specs.declared.Formed.{Formed}
 use Rattle.edition.specs.declared.Formed.the-variants.{Well, Bad}
-use Rattle.edition.specs.declared.values.Verdict.{Verdict}
-use Rattle.edition.specs.declared.values.Verdict.the-variants.{Takes, Outside, Breaks}
+use Rattle.rules.specs.declared.values.Verdict.{Verdict}
+use Rattle.rules.specs.declared.values.Verdict.the-variants.{Takes, Outside, Breaks}
 use Rattle.edition.specs.Sets.{permitted}
-use Rattle.edition.specs.Values.{judged}
-use Rattle.edition.proofs.Verdicts.{nine-means}
+use Rattle.rules.specs.Values.{judged}
+use Rattle.rules.proofs.Verdicts.{nine-means}
 use Rattle.card.specs.declared.Refusal.{Refusal}
 use Rattle.card.specs.Content.{Content}
 use Rattle.card.specs.Rules.{Entry, objectRows, Fault, met, missing, length-out, byte-out, value-out, ofVerdict, fault}
-use Rattle.writer.specs.Writing.{rowRefusal, rowsRefusal, orBad, refusal}
+use Rattle.checks.specs.Refusing.{rowRefusal, rowsRefusal, orBad, refusal}
 use Rattle.demands.proofs.Numbers.{gate-keeps, cond-keeps}
 
 abbrev SmallIndex : Refusal → Type 0

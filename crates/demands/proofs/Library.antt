@@ -8,8 +8,8 @@ use lib.Dec.{eqb}
 use lib.ListN.{length, length-map}
 use borrow.Author.Tests.{eqb-true}
 use Rattle.edition.specs.declared.Edition.{Edition}
-use Rattle.edition.specs.Lists.{among}
-use Rattle.edition.proofs.Lists.{true-false}
+use Rattle.rules.specs.Lists.{among}
+use Rattle.rules.proofs.Lists.{true-false}
 use Rattle.card.specs.declared.Record.{Record}
 use Rattle.card.specs.declared.Refusal.{Refusal}
 use Rattle.card.specs.Content.{Content, contentOf, recordOf, emptyRecord, valueOf}
@@ -20,7 +20,8 @@ use Rattle.card.proofs.Records.{content-back}
 use Rattle.reader.specs.declared.Reading.{Reading}
 use Rattle.frame.specs.Frame.{startOf}
 use Rattle.reader.specs.Reading.{Answer, accepted, refused, answer, answerOf, reading}
-use Rattle.writer.specs.Writing.{refusal, refusalOf, bufferAfter}
+use Rattle.checks.specs.Refusing.{refusal}
+use Rattle.writer.specs.Writing.{refusalOf, bufferAfter}
 use Rattle.demands.specs.Nested.{Nested, FirstUnmet}
 use Rattle.demands.specs.Demands.{Accepts, Refuses, LentEdition, LentRecord, readingNumbers, Demand1, Demand2, Demand3, Demands, libraryReader, libraryWriter}
 use Rattle.demands.proofs.Accepts.{reads}

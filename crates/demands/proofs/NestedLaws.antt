@@ -9,7 +9,7 @@ use lib.ListN.{length}
 use Rattle.edition.specs.declared.Row.{Row}
 use Rattle.edition.specs.declared.Edition.{Edition}
 use Rattle.edition.specs.declared.Formed.the-variants.{Well}
-use Rattle.edition.specs.Lists.{among}
+use Rattle.rules.specs.Lists.{among}
 use Rattle.edition.specs.Rows.{tags, formedFrom}
 use Rattle.card.specs.declared.Refusal.{Refusal}
 use Rattle.card.specs.Content.{Content}

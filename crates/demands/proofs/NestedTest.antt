@@ -9,18 +9,18 @@ use lib.ListN.{length, getD}
 use lib.Pow.{pow-mono}
 use lib.Dec.{leb, eqb, ltb}
 use borrow.Author.Tests.{eqb-true, eqb-false, leb-true, leb-false, ltb-true}
-use Rattle.edition.specs.declared.Rule.{Rule}
+use Rattle.rules.specs.declared.Rule.{Rule}
 use Rattle.edition.specs.declared.Row.{Row}
 use Rattle.edition.specs.declared.Edition.{Edition}
 use Rattle.edition.specs.declared.Formed.the-variants.{Well}
-use Rattle.edition.specs.declared.values.Verdict.the-variants.{Takes}
+use Rattle.rules.specs.declared.values.Verdict.the-variants.{Takes}
 use Rattle.edition.specs.Sets.{permitted}
-use Rattle.edition.specs.Values.{isDigit, isText, byClass, takes, isLead, isCode, isBirth, isExpiry, two, bySense, holds, judged}
+use Rattle.rules.specs.Values.{isDigit, isText, byClass, takes, isLead, isCode, isBirth, isExpiry, two, bySense, holds, judged}
 use Rattle.edition.specs.Rows.{setFormed, formedFrom}
 use Rattle.edition.specs.Tables.{terminal, issue}
-use Rattle.edition.proofs.Lists.{true-false, and-left, and-right, leading-wider}
+use Rattle.rules.proofs.Lists.{true-false, and-left, and-right, leading-wider}
 use Rattle.edition.proofs.Sets.{beyond}
-use Rattle.edition.proofs.Verdicts.{taken-means, means-taken}
+use Rattle.rules.proofs.Verdicts.{taken-means, means-taken}
 use Rattle.edition.proofs.Shipped.{terminal-formed, issue-formed}
 use Rattle.demands.specs.Nested.{Within, NestedRows, no-rows, one-row, Nested}
 use Rattle.edition.proofs.Rows.{formed-head}

@@ -10,12 +10,12 @@ use lib.Seq.{take-append-seam, drop-append-seam, length-take-le}
 use lib.Dec.{leb, eqb}
 use borrow.Author.Tests.{eqb-true, eq-eqb, ne-eqb, le-leb, leb-true, not-true}
 use Rattle.edition.specs.declared.Row.{Row}
-use Rattle.edition.specs.declared.values.Verdict.{Verdict}
-use Rattle.edition.specs.declared.values.Verdict.the-variants.{Takes, Outside, Breaks}
-use Rattle.edition.specs.Lists.{among, distinct}
+use Rattle.rules.specs.declared.values.Verdict.{Verdict}
+use Rattle.rules.specs.declared.values.Verdict.the-variants.{Takes, Outside, Breaks}
+use Rattle.rules.specs.Lists.{among, distinct}
 use Rattle.edition.specs.Sets.{permitted}
-use Rattle.edition.specs.Values.{judged}
-use Rattle.edition.proofs.Lists.{true-false, and-left, and-right}
+use Rattle.rules.specs.Values.{judged}
+use Rattle.rules.proofs.Lists.{true-false, and-left, and-right}
 use Rattle.card.specs.declared.Refusal.{Refusal}
 use Rattle.card.specs.Refusals.{refuse, refuseLength}
 use Rattle.card.specs.Layout.{object, body}

@@ -10,7 +10,7 @@ use borrow.Author.Tests.{eqb-true, leb-true, le-leb}
 use Rattle.edition.specs.declared.Edition.{Edition}
 use Rattle.edition.specs.declared.Formed.{Formed}
 use Rattle.edition.specs.declared.Formed.the-variants.{Well, Bad}
-use Rattle.edition.proofs.Lists.{and-left, and-right}
+use Rattle.rules.proofs.Lists.{and-left, and-right}
 use Rattle.card.specs.declared.Record.{Record}
 use Rattle.card.specs.declared.Refusal.{Refusal}
 use Rattle.card.specs.Content.{Content, valueOf, contentOf, recordOf}
@@ -19,7 +19,8 @@ use Rattle.card.specs.Layout.{templateLength, objectsOf, layout}
 use Rattle.card.specs.Rules.{Entry, RowMet, AllMet, none-left, one-more, Fault, met, missing, length-out, byte-out, value-out, fault, Allowed}
 use Rattle.card.proofs.Records.{content-back}
 use Rattle.reader.specs.Reading.{accepted, answer}
-use Rattle.writer.specs.Writing.{rowRefusal, rowsRefusal, orBad, refusal, refusalOf, bufferAfter}
+use Rattle.checks.specs.Refusing.{rowRefusal, rowsRefusal, orBad, refusal}
+use Rattle.writer.specs.Writing.{refusalOf, bufferAfter}
 use Rattle.demands.specs.Nested.{Nested}
 use Rattle.demands.proofs.WalkLaws.{fault-met, met-fault}
 use Rattle.demands.proofs.Tables.{table-of}

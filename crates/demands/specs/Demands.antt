@@ -6,7 +6,7 @@ use mathlib.Core.Bool.{true}
 use mathlib.Core.List.{List, [], _∷_}
 use lib.ListN.{length}
 use Rattle.edition.specs.declared.Edition.{Edition}
-use Rattle.edition.specs.Lists.{among}
+use Rattle.rules.specs.Lists.{among}
 use Rattle.card.specs.declared.Record.{Record}
 use Rattle.card.specs.declared.Refusal.{Refusal}
 use Rattle.card.specs.Content.{contentOf, recordOf, emptyRecord}

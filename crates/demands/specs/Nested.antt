@@ -7,9 +7,9 @@ use lib.ListN.{length}
 use Rattle.edition.specs.declared.Row.{Row}
 use Rattle.edition.specs.declared.Edition.{Edition}
 use Rattle.edition.specs.declared.Formed.the-variants.{Well}
-use Rattle.edition.specs.declared.values.Verdict.the-variants.{Takes}
+use Rattle.rules.specs.declared.values.Verdict.the-variants.{Takes}
 use Rattle.edition.specs.Sets.{permitted}
-use Rattle.edition.specs.Values.{judged}
+use Rattle.rules.specs.Values.{judged}
 use Rattle.edition.specs.Rows.{formedFrom}
 use Rattle.card.specs.declared.Refusal.{Refusal}
 use Rattle.card.specs.Refusals.{refuse, refuseLength, none}

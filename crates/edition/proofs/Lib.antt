@@ -1,6 +1,4 @@
 -- The laws of the definitions.
-pub mod Lists
 pub mod Sets
-pub mod Verdicts
 pub mod Rows
 pub mod Shipped

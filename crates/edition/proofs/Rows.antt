@@ -11,15 +11,15 @@ use lib.Dec.{eqb, leb, ltb}
 use lib.Pow.{pow-mono}
 use lib.ListN.{length, getD, drop}
 use lib.Seq.{drop-cons, drop-length}
-use Rattle.edition.specs.declared.Rule.{Rule}
-use Rattle.edition.specs.declared.Rule.the-variants.{Digits, Text, Lead, Code, Birth, Expiry, Raw}
+use Rattle.rules.specs.declared.Rule.{Rule}
+use Rattle.rules.specs.declared.Rule.the-variants.{Digits, Text, Lead, Code, Birth, Expiry, Raw}
 use Rattle.edition.specs.declared.Row.{Row}
 use Rattle.edition.specs.declared.Formed.{Formed}
 use Rattle.edition.specs.declared.Formed.the-variants.{Well, Bad}
-use Rattle.edition.specs.Lists.{among, distinct}
+use Rattle.rules.specs.Lists.{among, distinct}
 use Rattle.edition.specs.Sets.{permitted, only}
 use Rattle.edition.specs.Rows.{tags, noRow, setFormed, byRule, rowFormed, formedFrom, Told, told}
-use Rattle.edition.proofs.Lists.{true-false, and-left, and-right}
+use Rattle.rules.proofs.Lists.{true-false, and-left, and-right}
 use Rattle.edition.proofs.Sets.{beyond}
 
 -- the tags of the seventeen rows are distinct

@@ -1,27 +1,15 @@
 // An edition: what each of the seventeen rows asks of its object, in card order.
 mod lengths;
 mod tags;
-mod values;
 
 pub use lengths::longest;
 pub use lengths::permits;
 pub use lengths::shortest;
+use rules::Rule;
 pub use tags::tag_of;
-pub use values::Verdict;
-pub use values::judge;
 ghost use mathlib.Core.Path.{_≡_};
 ghost use Rattle.edition.specs.Rows.{byRule, rowFormed, formedFrom, told};
 ghost use Rattle.edition.specs.Tables.{terminal, issue};
-
-pub enum Rule {
-    Digits,
-    Text,
-    Lead,
-    Code,
-    Birth,
-    Expiry,
-    Raw,
-}
 
 // The bit n of lengths is set where the length n is permitted.
 pub struct Row {

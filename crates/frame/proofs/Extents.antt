@@ -7,7 +7,7 @@ use mathlib.Core.Bool.{Bool, true, false, cond, _&&_}
 use mathlib.Core.List.{List, [], _∷_}
 use lib.Dec.{eqb, leb}
 use lib.ListN.{length, getD, take, drop}
-use Rattle.edition.proofs.Lists.{and-left, and-right}
+use Rattle.rules.proofs.Lists.{and-left, and-right}
 use Rattle.card.specs.declared.fields.LengthField.{LengthField}
 use Rattle.card.specs.declared.fields.LengthField.the-variants.{One, Other}
 use Rattle.card.specs.Refusals.{refuse, none, gate}

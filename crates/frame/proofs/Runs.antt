@@ -11,8 +11,8 @@ use lib.Bits.{bitOr, bitXor, or-add-and, xor-add-and, and-le-l, and-le-r, xor-se
 use lib.Dec.{eqb}
 use lib.ListN.{length, getD, take, drop, replicate, length-replicate, getD-replicate, length-drop}
 use lib.Seq.{drop-drop, take-all}
-use Rattle.edition.specs.Lists.{agree}
-use Rattle.edition.proofs.Lists.{agree-pass, agree-stop, agree-end, agree-same}
+use Rattle.rules.specs.Lists.{agree}
+use Rattle.rules.proofs.Lists.{agree-pass, agree-stop, agree-end, agree-same}
 
 pub agree-within : (xs zs : List ℕ) → agree xs zs ≤ length zs
 unfolding agree

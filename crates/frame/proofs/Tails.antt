@@ -6,7 +6,7 @@ use mathlib.Core.Path.{_≡_, sym, ap, _∙_}
 use mathlib.Core.List.{List, _∷_, _++_}
 use lib.ListN.{length, getD, take, drop, replicate, length-take, length-drop, length-replicate}
 use lib.Seq.{getD-drop}
-use Rattle.edition.specs.Lists.{agree}
+use Rattle.rules.specs.Lists.{agree}
 use Rattle.card.specs.Fields.{lengthField}
 use Rattle.card.specs.Layout.{spaces, lasts, filler}
 use Rattle.card.proofs.Room.{room}

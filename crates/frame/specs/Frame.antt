@@ -4,7 +4,7 @@ use mathlib.Core.Bool.{cond, _&&_}
 use mathlib.Core.List.{List, [], _∷_, _++_}
 use lib.Dec.{leb}
 use lib.ListN.{take, drop, getD}
-use Rattle.edition.specs.Lists.{agree}
+use Rattle.rules.specs.Lists.{agree}
 use Rattle.card.specs.declared.fields.LengthField.{LengthField}
 use Rattle.card.specs.declared.fields.LengthField.the-variants.{One, Two, Other, Cut}
 use Rattle.card.specs.Fields.{lengthAt, told}

@@ -2,7 +2,7 @@
 ghost use mathlib.Core.Path.{_≡_};
 ghost use Prim.Native.Nat.{_≤_};
 ghost use lib.ListN.{length};
-ghost use Rattle.edition.specs.Lists.{agree};
+ghost use Rattle.rules.specs.Lists.{agree};
 ghost use Rattle.frame.specs.Frame.{headEnd};
 
 // How many bytes at the head of a part are those wanted.

@@ -5,7 +5,7 @@ ghost use mathlib.Core.List.{_∷_};
 ghost use Prim.Native.Nat.{_+_, _-_, _≤_};
 ghost use lib.Dec.{eqb};
 ghost use lib.ListN.{length, getD, replicate};
-ghost use Rattle.edition.specs.Lists.{agree};
+ghost use Rattle.rules.specs.Lists.{agree};
 ghost use Rattle.card.specs.Fields.{lengthField};
 ghost use Rattle.card.specs.Layout.{filler};
 

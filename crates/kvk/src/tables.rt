@@ -2,7 +2,7 @@
 use crate::bytes;
 use edition::Edition;
 use edition::Row;
-use edition::Rule;
+use rules::Rule;
 ghost use mathlib.Core.Path.{_≡_};
 ghost use lib.ListN.{length};
 ghost use Rattle.kvk.specs.Bytes.{fourBytes};

@@ -11,10 +11,10 @@ use lib.Dec.{ltb}
 use lib.ListN.{length, getD, take, drop, set, replicate, length-set, length-drop}
 use lib.Seq.{take-all, take-nil, take-take, drop-cons, drop-drop, append-snoc, slice, slice-empty, slice-cons, length-slice}
 use Rattle.edition.specs.declared.Row.{Row}
-use Rattle.edition.specs.declared.values.Verdict.{Verdict}
-use Rattle.edition.specs.declared.values.Verdict.the-variants.{Takes, Outside, Breaks}
+use Rattle.rules.specs.declared.values.Verdict.{Verdict}
+use Rattle.rules.specs.declared.values.Verdict.the-variants.{Takes, Outside, Breaks}
 use Rattle.edition.specs.Sets.{permitted}
-use Rattle.edition.specs.Values.{judged}
+use Rattle.rules.specs.Values.{judged}
 use Rattle.edition.specs.Rows.{tags, tagOf, noRow}
 use Rattle.card.specs.Refusals.{refuse, refuseLength}
 use Rattle.card.specs.Rules.{Entry, entries}

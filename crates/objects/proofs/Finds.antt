@@ -9,15 +9,15 @@ use mathlib.Core.List.{List}
 use lib.Dec.{eqb, leb, ltb}
 use lib.ListN.{length, getD, drop, set, replicate, length-take, drop-of-length-le}
 use lib.Seq.{drop-cons}
-use Rattle.edition.specs.declared.Rule.{Rule}
+use Rattle.rules.specs.declared.Rule.{Rule}
 use Rattle.edition.specs.declared.Row.{Row}
-use Rattle.edition.specs.declared.values.Verdict.{Verdict}
-use Rattle.edition.specs.declared.values.Verdict.the-variants.{Takes, Outside, Breaks}
+use Rattle.rules.specs.declared.values.Verdict.{Verdict}
+use Rattle.rules.specs.declared.values.Verdict.the-variants.{Takes, Outside, Breaks}
 use Rattle.edition.specs.Sets.{permitted}
-use Rattle.edition.specs.Values.{judged, told as verdictTold}
+use Rattle.rules.specs.Values.{judged, told as verdictTold}
 use Rattle.edition.specs.Rows.{tagOf, noRow}
-use Rattle.edition.proofs.Lists.{true-false, and-left}
-use Rattle.edition.proofs.Verdicts.{nine-means}
+use Rattle.rules.proofs.Lists.{true-false, and-left}
+use Rattle.rules.proofs.Verdicts.{nine-means}
 use Rattle.objects.specs.declared.rows.Found.{Found}
 use Rattle.objects.specs.declared.rows.Found.the-variants.{Object, Refused}
 use Rattle.objects.specs.declared.Listing.{Listing}

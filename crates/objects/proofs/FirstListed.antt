@@ -3,7 +3,7 @@ use Prim.Native.Nat.{ℕ, _≤_}
 use native.Mathlib.Omega.{arith}
 use mathlib.Core.List.{List}
 use lib.ListN.{take, drop, length-take, length-drop}
-use Rattle.edition.proofs.Lists.{leading-most}
+use Rattle.rules.proofs.Lists.{leading-most}
 use Rattle.objects.specs.Groups.{isZero, firstListed}
 
 pub listed-most : (ns : List ℕ) (k : ℕ) → k ≤ 16 → firstListed k ns ≤ 16

@@ -5,7 +5,7 @@ use mathlib.Core.Path.{_≡_, refl}
 use mathlib.Core.Bool.{true}
 use lib.Pow.{pow-lt}
 use Rattle.edition.specs.Sets.{permitted, only}
-use Rattle.edition.proofs.Lists.{true-false}
+use Rattle.rules.proofs.Lists.{true-false}
 use Rattle.edition.proofs.Sets.{beyond}
 use Rattle.edition.proofs.Rows.{Within28, permits-not-0}
 

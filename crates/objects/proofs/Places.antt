@@ -12,7 +12,7 @@ use Rattle.edition.specs.declared.Row.{Row}
 use Rattle.edition.specs.declared.Formed.the-variants.{Well}
 use Rattle.edition.specs.Sets.{permitted}
 use Rattle.edition.specs.Rows.{tags, tagOf, formedFrom, rowFormed, noRow}
-use Rattle.edition.proofs.Lists.{true-false}
+use Rattle.rules.proofs.Lists.{true-false}
 use Rattle.card.specs.Layout.{object, body}
 use Rattle.objects.specs.declared.rows.Found.{Found}
 use Rattle.objects.specs.declared.Listing.{Listing}

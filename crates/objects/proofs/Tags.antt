@@ -8,9 +8,9 @@ use mathlib.Core.Bool.{Bool, true, false, cond, not, _&&_, _||_}
 use mathlib.Core.List.{List, [], _∷_}
 use lib.Dec.{eqb, ltb, leb·suc-suc}
 use lib.ListN.{length, getD, drop}
-use Rattle.edition.specs.Lists.{among, distinct, leading}
+use Rattle.rules.specs.Lists.{among, distinct, leading}
 use Rattle.edition.specs.Rows.{tags, tagOf}
-use Rattle.edition.proofs.Lists.{true-false, and-left, and-right}
+use Rattle.rules.proofs.Lists.{true-false, and-left, and-right}
 use Rattle.edition.proofs.Rows.{tags-distinct}
 use Rattle.objects.specs.Objects.{other, rowOf, later}
 

@@ -4,7 +4,7 @@ use mathlib.Core.Bool.{Bool, true, _&&_}
 use mathlib.Core.List.{List}
 use lib.Dec.{leb, eqb}
 use lib.ListN.{take, drop, getD}
-use Rattle.edition.specs.Lists.{leading}
+use Rattle.rules.specs.Lists.{leading}
 use Rattle.edition.specs.Rows.{tagOf}
 use Rattle.card.specs.declared.Refusal.{Refusal}
 use Rattle.card.specs.Refusals.{refuse, none, gate}

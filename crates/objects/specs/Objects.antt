@@ -5,11 +5,11 @@ use mathlib.Core.List.{List, [], _∷_}
 use lib.Dec.{eqb, leb, ltb}
 use lib.ListN.{length, getD, take, drop, set, replicate}
 use Rattle.edition.specs.declared.Row.{Row}
-use Rattle.edition.specs.declared.values.Verdict.{Verdict}
-use Rattle.edition.specs.declared.values.Verdict.the-variants.{Takes, Outside, Breaks}
-use Rattle.edition.specs.Lists.{leading}
+use Rattle.rules.specs.declared.values.Verdict.{Verdict}
+use Rattle.rules.specs.declared.values.Verdict.the-variants.{Takes, Outside, Breaks}
+use Rattle.rules.specs.Lists.{leading}
 use Rattle.edition.specs.Sets.{permitted}
-use Rattle.edition.specs.Values.{judged}
+use Rattle.rules.specs.Values.{judged}
 use Rattle.edition.specs.Rows.{tags, tagOf, noRow}
 use Rattle.card.specs.declared.Refusal.{Refusal}
 use Rattle.card.specs.Refusals.{refuse, refuseLength}

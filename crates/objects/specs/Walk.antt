@@ -4,11 +4,11 @@ use mathlib.Core.Bool.{Bool, true, cond}
 use mathlib.Core.List.{List, [], _∷_, map}
 use lib.Dec.{leb, eqb}
 use lib.ListN.{length, take, drop}
-use Rattle.edition.specs.declared.values.Verdict.{Verdict}
-use Rattle.edition.specs.declared.values.Verdict.the-variants.{Takes, Outside, Breaks}
-use Rattle.edition.specs.Lists.{among}
+use Rattle.rules.specs.declared.values.Verdict.{Verdict}
+use Rattle.rules.specs.declared.values.Verdict.the-variants.{Takes, Outside, Breaks}
+use Rattle.rules.specs.Lists.{among}
 use Rattle.edition.specs.Sets.{permitted}
-use Rattle.edition.specs.Values.{judged}
+use Rattle.rules.specs.Values.{judged}
 use Rattle.card.specs.declared.Refusal.{Refusal}
 use Rattle.card.specs.Refusals.{refuse, refuseLength}
 use Rattle.card.specs.Rules.{Entry}

@@ -1,11 +1,11 @@
 // What each row finds, by addresses.
 use crate::Listing;
 use edition::Row;
-use edition::Verdict;
+use rules::Verdict;
 ghost use mathlib.Core.Path.{_≡_};
 ghost use Prim.Native.Nat.{_+_, _<_, _≤_};
 ghost use lib.ListN.{length, getD, replicate};
-ghost use Rattle.edition.specs.Values.{told as verdictTold};
+ghost use Rattle.rules.specs.Values.{told as verdictTold};
 ghost use Rattle.objects.specs.Objects.{told, rowOf, missing, valued, foundAt, readAt, listFrom};
 
 // What a row finds.
@@ -79,7 +79,7 @@ fn object_at(image: &[u8], at: usize, end: usize, k: usize, row: Row) -> Found
         return Found::Refused(8, at, edition::tag_of(k));
     }
     let rule = row.rule;
-    let verdict = edition::judge(rule, &image[start..stop]);
+    let verdict = rules::judge(rule, &image[start..stop]);
     weigh(k, start, n as usize, verdict)
 }
 

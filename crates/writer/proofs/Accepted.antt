@@ -11,9 +11,9 @@ use lib.ListN.{length, getD}
 use Rattle.edition.specs.declared.Row.{Row}
 use Rattle.edition.specs.declared.Edition.{Edition}
 use Rattle.edition.specs.Sets.{permitted}
-use Rattle.edition.specs.Values.{judged}
+use Rattle.rules.specs.Values.{judged}
 use Rattle.edition.specs.Rows.{tags, formedFrom, noRow}
-use Rattle.edition.proofs.Lists.{and-right}
+use Rattle.rules.proofs.Lists.{and-right}
 use Rattle.edition.proofs.Rows.{formed-within, permits-most}
 use Rattle.card.specs.declared.Object.{Object}
 use Rattle.card.specs.declared.Record.{Record}
@@ -22,11 +22,13 @@ use Rattle.card.specs.Content.{Content, valueOf, contentOf}
 use Rattle.card.specs.Layout.{templateLength, objectTags, objectsOf, layout}
 use Rattle.card.specs.Refusals.{none, gate, refuse}
 use Rattle.card.specs.Rules.{entries, length-out, ofVerdict, fault}
-use Rattle.writer.specs.Writing.{rowRefusal, rowsRefusal, refusal, refusalOf, bufferAfter}
-use Rattle.writer.specs.Checking.{entryOf, templateRefusal}
-use Rattle.writer.specs.Storing.{absent, Storable}
-use Rattle.writer.proofs.Items.{claim-short}
-use Rattle.writer.proofs.Order.{Neither, neither, table-well, row-or, refused-size, in-order}
+use Rattle.checks.specs.Refusing.{rowRefusal, rowsRefusal, refusal}
+use Rattle.writer.specs.Writing.{refusalOf, bufferAfter}
+use Rattle.checks.specs.Checking.{entryOf, templateRefusal}
+use Rattle.checks.specs.Checking.{absent}
+use Rattle.writer.specs.Storing.{Storable}
+use Rattle.checks.proofs.Items.{claim-short}
+use Rattle.checks.proofs.Order.{Neither, neither, table-well, row-or, refused-size, in-order}
 
 -- ---- where no row refuses, no object claims more than 28 bytes
 row-short : (t : ℕ) (r : Row) (v : List ℕ) → r .lengths < 2 ^ 29 → rowRefusal (entryOf t r) (fault r v) none .number ≡ 0 → length v ≤ 28

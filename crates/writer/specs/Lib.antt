@@ -1,4 +1,3 @@
 -- What the writer answers, and what it leaves in the buffer.
 pub mod Writing
-pub mod Checking
 pub mod Storing

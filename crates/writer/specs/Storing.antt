@@ -1,15 +1,12 @@
 -- What a record is that no check refuses: its bytes have their room.
 use Prim.Native.Nat.{ℕ, _≤_}
-use mathlib.Core.List.{List, []}
+use mathlib.Core.List.{List}
 use lib.ListN.{getD}
 use Rattle.card.specs.declared.Object.{Object}
 use Rattle.card.specs.declared.Record.{Record}
 use Rattle.card.specs.Content.{contentOf}
 use Rattle.card.specs.Layout.{templateLength, objectsOf}
-
--- what stands past the end of a list of objects
-abbrev pub absent : Object
-absent = record { length = 0; bytes = [] }
+use Rattle.checks.specs.Checking.{absent}
 
 -- no object claims more than its 28 bytes
 abbrev pub Short : List Object → Type 0

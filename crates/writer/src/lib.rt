@@ -1,12 +1,8 @@
 // The writer: a record becomes the 256 bytes of a card, or is refused.
 mod bytes;
-mod checks;
 mod filler;
 mod head;
 mod objects;
-mod refusals;
-mod rows;
-mod sizes;
 mod template;
 
 use card::Record;

@@ -10,37 +10,6 @@ ghost use Rattle.card.specs.Content.{valueOf, contentOf};
 ghost use Rattle.card.specs.Layout.{object, objectsOf};
 ghost use Rattle.writer.specs.Storing.{Short};
 
-// How long an object's value is.
-pub(crate) fn value_length(item: Object) -> usize
-    ensures { λ r. ⌜ r ≡ length (valueOf item) ⌝ }
-{
-    item.length as usize
-}
-
-// How many bytes an object takes in the template, with whatever tag.
-fn object_size(item: Object) -> usize
-    ensures { λ r. ⌜ r ≤ 257 ⌝ }
-    ensures { λ r. ⌜ ((tag : ℕ) → r ≡ length (object tag (valueOf item))) ⌝ }
-{
-    let n = item.length as usize;
-    if n == 0 { 0 } else { n + 2 }
-}
-
-// How many bytes all objects take.
-pub(crate) fn objects_size(content: Record) -> usize
-    ensures { λ r. ⌜ r ≤ 4112 ⌝ }
-    ensures { λ r. ⌜ r ≡ length (objectsOf (contentOf content)) ⌝ }
-{
-    let mut size = 0;
-    let mut i = 0;
-    while i < 16 {
-        let item = content.objects[i];
-        size += object_size(item);
-        i += 1;
-    }
-    size
-}
-
 // Writes one object from `at` on, or nothing where it is absent. Answers the place behind it.
 fn write_object(buffer: &mut [u8], at: usize, tag: u8, item: Object) -> usize
     requires { ⌜ (item .length ≤ 28) × (at + length (object tag (valueOf item)) ≤ length (now buffer)) ⌝ }

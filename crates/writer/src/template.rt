@@ -16,7 +16,7 @@ pub(crate) fn write_template(buffer: &mut [u8], content: Record) -> usize
     ensures { λ r. ⌜ r ≡ 30 + length (template (objectsOf (contentOf content))) ⌝ }
     ensures { λ _. ⌜ now (buffer .exit) ≡ sets (now (buffer .entry)) 30 (template (objectsOf (contentOf content))) ⌝ }
 {
-    let size = objects::objects_size(content);
+    let size = checks::objects_size(content);
     buffer[30] = 0x60;
     let start = bytes::write_length(buffer, 31, size + 3);
     let end = objects::write_objects(buffer, start, content);

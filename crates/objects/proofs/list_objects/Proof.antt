@@ -4,7 +4,7 @@ use borrow.Author.Tests.{leb-true}
 use lib.Dec.{leb}
 use lib.ListN.{length}
 use denote.Ref.{now}
-use Rattle.edition.proofs.Lists.{and-left, and-right}
+use Rattle.rules.proofs.Lists.{and-left, and-right}
 use Rattle.objects.specs.Objects.{listed}
 use borrow.Author.Needs.{needs}
 use Rattle.objects.proofs.list_objects.Statement.{statement}

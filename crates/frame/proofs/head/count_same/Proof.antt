@@ -3,8 +3,8 @@ use mathlib.Core.Path.{_≡_, sym, _∙_}
 use Prim.Native.Nat.{_+_, _-_, _≤_}
 use native.Mathlib.Omega.{arith}
 use lib.ListN.{length, drop}
-use Rattle.edition.specs.Lists.{agree}
-use Rattle.edition.proofs.Lists.{agree-pass, agree-stop, agree-end}
+use Rattle.rules.specs.Lists.{agree}
+use Rattle.rules.proofs.Lists.{agree-pass, agree-stop, agree-end}
 use Rattle.frame.proofs.head.count_same.Statement.{statement}
 use Rattle.frame.proofs.head.count_same.Tie as tie
 

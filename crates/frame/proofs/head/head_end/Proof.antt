@@ -4,7 +4,7 @@ use mathlib.Core.Path.{_≡_, sym, _∙_}
 use mathlib.Core.List.{List, _++_}
 use native.Mathlib.Omega.{arith}
 use lib.ListN.{drop}
-use Rattle.edition.specs.Lists.{agree}
+use Rattle.rules.specs.Lists.{agree}
 use Rattle.card.specs.Layout.{identifier}
 use Rattle.frame.specs.Frame.{headEnd}
 use Rattle.frame.proofs.Runs.{part-stops, part-passes}

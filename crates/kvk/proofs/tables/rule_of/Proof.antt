@@ -3,7 +3,7 @@ use mathlib.Core.Path.{sym}
 use Prim.Native.Nat.{_≤_}
 use native.Mathlib.Omega.{arith}
 use lib.ListN.{List·getD-eq-default}
-use Rattle.edition.specs.declared.Rule.the-variants.{Raw}
+use Rattle.rules.specs.declared.Rule.the-variants.{Raw}
 use Rattle.kvk.specs.Tables.{rules}
 use borrow.Author.Needs.{needs}
 use Rattle.kvk.proofs.tables.rule_of.Statement.{statement}

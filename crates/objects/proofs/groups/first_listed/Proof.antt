@@ -6,8 +6,8 @@ use borrow.Author.Needs.{needs}
 use borrow.Author.Tests.{eq-eqb, ne-eqb}
 use lib.ListN.{length, take, drop, length-take}
 use lib.Seq.{getD-take}
-use Rattle.edition.specs.Lists.{leading}
-use Rattle.edition.proofs.Lists.{leading-pass, leading-stop, leading-end}
+use Rattle.rules.specs.Lists.{leading}
+use Rattle.rules.proofs.Lists.{leading-pass, leading-stop, leading-end}
 use Rattle.objects.specs.Groups.{isZero, firstListed}
 use Rattle.objects.proofs.groups.first_listed.Statement.{statement}
 use Rattle.objects.proofs.groups.first_listed.Tie as tie

@@ -6,9 +6,9 @@ use native.Mathlib.Omega.{arith}
 use borrow.Author.Tests.{not-true, not-false}
 use lib.ListN.{length, getD, take, drop}
 use denote.Ref.{now}
-use Rattle.edition.specs.declared.values.Verdict.{Verdict}
-use Rattle.edition.proofs.Verdicts.{told-apart}
-use Rattle.edition.specs.Values.{Told, told as verdictTold, judged}
+use Rattle.rules.specs.declared.values.Verdict.{Verdict}
+use Rattle.rules.proofs.Verdicts.{told-apart}
+use Rattle.rules.specs.Values.{Told, told as verdictTold, judged}
 use Rattle.objects.specs.Objects.{told, valued}
 use Rattle.objects.proofs.Finds.{index-within, found-cut, found-unlisted, found-overlong, found-weighed}
 use borrow.Author.Needs.{needs}

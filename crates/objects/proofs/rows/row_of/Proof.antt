@@ -7,9 +7,9 @@ use native.Mathlib.Omega.{arith}
 use borrow.Author.Needs.{needs}
 use borrow.Author.Tests.{eq-eqb, ne-eqb}
 use lib.ListN.{drop}
-use Rattle.edition.specs.Lists.{leading}
+use Rattle.rules.specs.Lists.{leading}
 use Rattle.edition.specs.Rows.{tags}
-use Rattle.edition.proofs.Lists.{leading-pass, leading-stop, leading-end}
+use Rattle.rules.proofs.Lists.{leading-pass, leading-stop, leading-end}
 use Rattle.objects.specs.Objects.{other, rowOf}
 use Rattle.objects.proofs.rows.row_of.Statement.{statement}
 use Rattle.objects.proofs.rows.row_of.Tie as tie

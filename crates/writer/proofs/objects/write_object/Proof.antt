@@ -4,7 +4,7 @@ use native.Mathlib.Omega.{arith}
 use lib.ListN.{length, take, length-set}
 use lib.Seq.{sets, length-take-le}
 use Rattle.card.specs.Content.{valueOf}
-use Rattle.writer.proofs.Items.{value-long, object-none, Drawn, drawn, head-two}
+use Rattle.checks.proofs.Items.{value-long, object-none, Drawn, drawn, head-two}
 use borrow.Author.Needs.{needs}
 use Rattle.writer.proofs.objects.write_object.Statement.{statement}
 use Rattle.writer.proofs.objects.write_object.Tie as tie

@@ -5,7 +5,7 @@ use native.Mathlib.Omega.{arith}
 use lib.ListN.{length, length-map}
 use Rattle.card.specs.Content.{contentOf}
 use Rattle.card.specs.Layout.{objectsOf}
-use Rattle.writer.proofs.Items.{Rest, rest-start, rest-room, rest-next, rest-end}
+use Rattle.checks.proofs.Items.{Rest, rest-start, rest-room, rest-next, rest-end}
 use Rattle.writer.proofs.objects.write_objects.Statement.{statement}
 use Rattle.writer.proofs.objects.write_objects.Tie as tie
 

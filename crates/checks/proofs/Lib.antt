@@ -1,0 +1,5 @@
+-- The laws of the definitions.
+pub mod Items
+pub mod Faults
+pub mod Groups
+pub mod Order

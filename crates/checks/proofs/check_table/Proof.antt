@@ -1,0 +1,48 @@
+-- `checks::check_table` meets its contract: the answer of `formed` is the first bad row, or none. Assumes nothing.
+use mathlib.Core.Path.{_≡_, sym, _∙_}
+use Rattle.edition.specs.Rows.{formedFrom}
+use Rattle.edition.proofs.Rows.{told-apart}
+use Rattle.checks.specs.Refusing.{orBad}
+use borrow.Author.Needs.{needs}
+use Rattle.checks.proofs.check_table.Statement.{statement}
+use Rattle.checks.proofs.check_table.Tie as tie
+
+formed-requires : tie.Need-formed-requires
+formed-requires c κs = search needs
+
+formed-is : (c : tie.After-formed) → formedFrom 0 (c .before .args .edition .rows) ≡ c .formed .result
+formed-is c = sym (told-apart _ _ (c .formed .ensures))
+
+enum-told : tie.Need-enum-told
+enum-told c = search needs
+
+enum-known-row : tie.Need-enum-known-row
+enum-known-row c = search needs
+
+tag-of-requires : tie.Need-tag-of-requires
+tag-of-requires c κs = search needs
+
+new-requires : tie.Need-new-requires
+new-requires c κs = search needs
+
+returns : tie.Need-returns
+unfolding orBad
+returns c = rw (formed-is (c .before .before) ∙ c .enum-told .given .1)
+
+returns-2 : tie.Need-returns-2
+unfolding orBad
+returns-2 c =
+    let k = c .before .before .before in
+    rw (formed-is (k .before .before) ∙ k .row .given .1, ← c .before .tag-of .ensures) (c .new .ensures)
+
+pub check-table-spec : {M : Type 1} → statement M
+check-table-spec =
+    tie.close
+    (tie.spec
+    formed-requires
+    enum-told
+    enum-known-row
+    tag-of-requires
+    new-requires
+    returns
+    returns-2)

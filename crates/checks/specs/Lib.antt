@@ -1,0 +1,3 @@
+-- What a record is refused with.
+pub mod Refusing
+pub mod Checking

@@ -1,0 +1,60 @@
+// What is refused of a record before the first byte is written.
+mod objects;
+mod refusals;
+mod rows;
+mod sizes;
+
+use card::Record;
+use card::Refusal;
+use edition::Edition;
+use edition::Formed;
+pub use objects::objects_size;
+ghost use mathlib.Core.Path.{_≡_};
+ghost use Rattle.edition.specs.Rows.{formedFrom};
+ghost use Rattle.card.specs.Content.{contentOf};
+ghost use Rattle.card.specs.Refusals.{none};
+ghost use Rattle.checks.specs.Refusing.{orBad, refusal};
+ghost use Rattle.checks.specs.Checking.{endsRefusal};
+
+// 2: the first bad row of the table.
+fn check_table(edition: Edition) -> Refusal
+    ensures { λ r. ⌜ r ≡ orBad (formedFrom 0 (edition .rows)) none ⌝ }
+{
+    match edition.formed() {
+        Formed::Well => Refusal::NONE,
+        Formed::Bad(row) => Refusal::new(2, 0, edition::tag_of(row)),
+    }
+}
+
+// 3: address 0 and the last byte.
+fn check_ends(first: u8, last: u8) -> Refusal
+    ensures { λ r. ⌜ r ≡ endsRefusal first last ⌝ }
+{
+    if card::allows_first(first) & card::allows_last(first, last) {
+        Refusal::NONE
+    } else {
+        Refusal::new(3, 0, 0)
+    }
+}
+
+// The first refusal of a record, in a buffer of `size` bytes.
+pub fn check(edition: Edition, content: Record, size: usize) -> Refusal
+    ensures { λ r. ⌜ r ≡ refusal edition (contentOf content) size ⌝ }
+{
+    if size != 256 {
+        return Refusal::new(20, 0, 0);
+    }
+    let table = check_table(edition);
+    if table.number != 0 {
+        return table;
+    }
+    let ends = check_ends(content.first, content.last);
+    if ends.number != 0 {
+        return ends;
+    }
+    let rows = rows::check_rows(edition, content);
+    if rows.number != 0 {
+        return rows;
+    }
+    sizes::check_sizes(content)
+}
