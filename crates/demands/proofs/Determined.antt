@@ -33,6 +33,8 @@ use Rattle.checks.proofs.check.Reads as check
 use Rattle.checks.proofs.objects_size.Reads as objects-size
 use Rattle.writer.proofs.write.Reads as write
 use Rattle.listing.proofs.list.Reads as list
+use Rattle.tables.proofs.edition_of.Reads as edition-of
+use Rattle.tables.proofs.write_table.Reads as write-table
 use Rattle.kvk.proofs.kvk_read.Reads as kvk-read
 use Rattle.kvk.proofs.kvk_write.Reads as kvk-write
 use Rattle.kvk.proofs.kvk_edition.Reads as kvk-edition
@@ -110,6 +112,9 @@ check-once κs a z y e f p q = p ∙ sym q
 pub objects-size-once : (κs : _) (a : _) (z y : _) (e f : _) → objects-size.Post κs a z e → objects-size.Post κs a y f → z ≡ y
 objects-size-once κs a z y e f p q = p .1 ∙ sym (q .1)
 
+pub edition-of-once : (κs : _) (a : _) (z y : _) (e f : _) → edition-of.Post κs a z e → edition-of.Post κs a y f → z ≡ y
+edition-of-once κs a z y e f p q = p ∙ sym q
+
 -- an enum that is told alike is the same
 pub formed-once : (κs : _) (a : _) (z y : _) (e f : _) → formed.Post κs a z e → formed.Post κs a y f → z ≡ y
 formed-once κs a z y e f p q = Rows.told-apart z y (p ∙ sym q)
@@ -126,6 +131,9 @@ write-once κs a z y e f p q = p .0 ∙ sym (q .0)
 
 pub write-buffer-once : (κs : _) (a : _) (z y : _) (e f : _) → write.Post κs a z e → write.Post κs a y f → now (e .1 .1 .0) ≡ now (f .1 .1 .0)
 write-buffer-once κs a z y e f p q = p .1 ∙ sym (q .1)
+
+pub write-table-room-once : (κs : _) (a : _) (z y : _) (e f : _) → write-table.Post κs a z e → write-table.Post κs a y f → now (e .1 .0) ≡ now (f .1 .0)
+write-table-room-once κs a z y e f p q = p ∙ sym q
 
 pub kvk-read-once : (κs : _) (a : _) (z y : _) (e f : _) → kvk-read.Post κs a z e → kvk-read.Post κs a y f → z ≡ y
 kvk-read-once κs a z y e f p q = p .0 ∙ sym (q .0)

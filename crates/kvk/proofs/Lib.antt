@@ -1,4 +1,3 @@
 -- Laws that the proofs of `kvk` share.
-pub mod Pieces
 pub mod Fronts
 pub mod RoundTrips

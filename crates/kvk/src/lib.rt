@@ -2,7 +2,6 @@
 mod bytes;
 mod records;
 mod refusals;
-mod tables;
 
 use card::Record;
 use card::Refusal;

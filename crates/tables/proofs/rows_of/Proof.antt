@@ -1,16 +1,15 @@
--- `tables::edition_of` meets its contract. The invariant: the rows passed are those of the pieces passed. Assumes nothing.
-use mathlib.Core.Path.{_≡_, refl, ap}
-use mathlib.Core.List.{List, map}
+-- `tables::rows_of` meets its contract. The invariant: the rows passed are those of the pieces passed. Assumes nothing.
+use mathlib.Core.Path.{_≡_, refl}
+use mathlib.Core.List.{map}
 use Prim.Native.Nat.{_+_, _-_, _*_, _≤_, _<_}
 use native.Mathlib.Omega.{arith}
 use borrow.Author.Needs.{needs}
 use lib.ListN.{length, take, length-set}
-use Rattle.edition.specs.declared.Row.{Row}
-use Rattle.kvk.specs.Bytes.{pieces}
-use Rattle.kvk.specs.Tables.{rowOf, editionOf}
-use Rattle.kvk.proofs.Pieces.{part-length, stored-more, stored-all}
-use Rattle.kvk.proofs.tables.edition_of.Statement.{statement}
-use Rattle.kvk.proofs.tables.edition_of.Tie as tie
+use Rattle.tables.specs.Bytes.{pieces}
+use Rattle.tables.specs.Tables.{rowOf, editionOf}
+use Rattle.tables.proofs.Pieces.{part-length, stored-more, stored-all}
+use Rattle.tables.proofs.rows_of.Statement.{statement}
+use Rattle.tables.proofs.rows_of.Tie as tie
 
 abbrev Inv-loop : tie.InvT-loop
 Inv-loop table rows₀ k₀ rows k = (k ≤ 17) × (length rows ≡ 17) × (take k rows ≡ map rowOf (pieces 6 k table))
@@ -65,10 +64,10 @@ unfolding editionOf
 returns c =
     let l = c .before .loop in
     let e : l .k ≡ 17 = omega arith in
-    ap (λ (rs : List Row). record { rows = rs }) (rw e at (stored-all rowOf 6 _ (l .rows) (l .k) (l .inv .2) (omega arith)))
+    rw e at (stored-all rowOf 6 _ (l .rows) (l .k) (l .inv .2) (omega arith))
 
-pub edition-of-spec : {M : Type 1} → statement M
-edition-of-spec =
+pub rows-of-spec : {M : Type 1} → statement M
+rows-of-spec =
     tie.close
     (tie.spec
     Inv-loop

@@ -1,8 +1,8 @@
 -- `tables::row_of` meets its contract, by those of its callees. Assumes nothing.
-use Rattle.kvk.specs.Tables.{rowOf}
+use Rattle.tables.specs.Tables.{rowOf}
 use borrow.Author.Needs.{needs}
-use Rattle.kvk.proofs.tables.row_of.Statement.{statement}
-use Rattle.kvk.proofs.tables.row_of.Tie as tie
+use Rattle.tables.proofs.row_of.Statement.{statement}
+use Rattle.tables.proofs.row_of.Tie as tie
 
 shared-slice-read-required : tie.Need-shared-slice-read-required
 shared-slice-read-required c = search needs

@@ -3,12 +3,13 @@ use Prim.Native.Nat.{ℕ, _/_, _%_, _^_}
 use mathlib.Core.Bool.{cond, _&&_}
 use mathlib.Core.List.{List, [], _∷_, map}
 use lib.Dec.{eqb, leb}
-use lib.ListN.{getD}
+use lib.ListN.{length, getD, replicate}
 use Rattle.rules.specs.declared.Rule.{Rule}
 use Rattle.rules.specs.declared.Rule.the-variants.{Digits, Text, Lead, Code, Birth, Expiry, Raw}
 use Rattle.edition.specs.declared.Row.{Row}
 use Rattle.edition.specs.declared.Edition.{Edition}
-use Rattle.kvk.specs.Bytes.{fourBytes, pieces, joined}
+use Rattle.edition.specs.Rows.{noRow}
+use Rattle.tables.specs.Bytes.{fourBytes, pieces, joined}
 
 -- 0 digits, 1 text, 2 lead, 3 code, 4 birth, 5 expiry, 6 raw
 abbrev pub numberOf : Rule → ℕ
@@ -38,6 +39,13 @@ rowOf bs = record {
 unfoldable pub editionOf : List ℕ → Edition
 editionOf bs = record { rows = map rowOf (pieces 6 17 bs) }
 
+-- an edition with no good row
+abbrev pub noEdition : Edition
+noEdition = record { rows = replicate 17 noRow }
+
+unfoldable pub lentEdition : List ℕ → Edition
+lentEdition bs = cond (eqb (length bs) 102) (editionOf bs) noEdition
+
 -- the bytes of a row, and of an edition
 unfoldable pub rowBytes : Row → List ℕ
 rowBytes r =
@@ -46,3 +54,7 @@ rowBytes r =
 
 unfoldable pub tableBytes : Edition → List ℕ
 tableBytes e = joined rowBytes (e .rows)
+
+-- a room of another size is left as it is
+unfoldable pub lentTable : Edition → List ℕ → List ℕ
+lentTable e room = cond (eqb (length room) 102) (tableBytes e) room

@@ -4,10 +4,10 @@ use Prim.Native.Nat.{_≤_}
 use native.Mathlib.Omega.{arith}
 use lib.ListN.{List·getD-eq-default}
 use Rattle.rules.specs.declared.Rule.the-variants.{Raw}
-use Rattle.kvk.specs.Tables.{rules}
+use Rattle.tables.specs.Tables.{rules}
 use borrow.Author.Needs.{needs}
-use Rattle.kvk.proofs.tables.rule_of.Statement.{statement}
-use Rattle.kvk.proofs.tables.rule_of.Tie as tie
+use Rattle.tables.proofs.rule_of.Statement.{statement}
+use Rattle.tables.proofs.rule_of.Tie as tie
 
 returns : tie.Need-returns
 returns c = search needs

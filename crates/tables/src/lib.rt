@@ -1,12 +1,11 @@
-// A table of 102 bytes as an edition, and back.
-use crate::bytes;
+// An edition as a table of 102 bytes, and back.
 use edition::Edition;
 use edition::Row;
 use rules::Rule;
 ghost use mathlib.Core.Path.{_≡_};
 ghost use lib.ListN.{length};
-ghost use Rattle.kvk.specs.Bytes.{fourBytes};
-ghost use Rattle.kvk.specs.Tables.{numberOf, ruleOf, rowOf, editionOf, rowBytes, tableBytes};
+ghost use Rattle.tables.specs.Bytes.{fourBytes};
+ghost use Rattle.tables.specs.Tables.{numberOf, ruleOf, rowOf, editionOf, lentEdition, rowBytes, lentTable};
 
 fn number_of(rule: Rule) -> u8
     ensures { λ r. ⌜ r ≡ numberOf rule ⌝ }
@@ -61,16 +60,17 @@ fn row_of(bytes: &[u8]) -> Row
     }
 }
 
-pub(crate) fn edition_of(table: &[u8]) -> Edition
+const BLANK: Row = Row {
+    required: false,
+    rule: Rule::Digits,
+    lengths: 0,
+};
+
+fn rows_of(table: &[u8]) -> [Row; 17]
     requires { ⌜ length (now table) ≡ 102 ⌝ }
-    ensures { λ r. ⌜ r ≡ editionOf (now (table .entry)) ⌝ }
+    ensures { λ r. ⌜ r ≡ editionOf (now (table .entry)) .rows ⌝ }
 {
-    let blank = Row {
-        required: false,
-        rule: Rule::Digits,
-        lengths: 0,
-    };
-    let mut rows = [blank; 17];
+    let mut rows = [BLANK; 17];
     let mut k: usize = 0;
     while k < 17 {
         let at = k * 6;
@@ -78,34 +78,48 @@ pub(crate) fn edition_of(table: &[u8]) -> Edition
         rows[k] = row_of(&table[at..end]);
         k += 1;
     }
-    Edition { rows }
+    rows
 }
 
-fn bytes_of(row: Row) -> [u8; 6]
-    ensures { λ r. ⌜ r ≡ rowBytes row ⌝ }
+// The edition of a table; of another size, one that is not well formed.
+pub fn edition_of(table: &[u8]) -> Edition
+    ensures { λ r. ⌜ r ≡ lentEdition (now (table .entry)) ⌝ }
+{
+    if table.len() != 102 {
+        return Edition { rows: [BLANK; 17] };
+    }
+    Edition {
+        rows: rows_of(table),
+    }
+}
+
+fn write_row(row: Row, room: &mut [u8])
+    requires { ⌜ length (now room) ≡ 6 ⌝ }
+    ensures { λ _. ⌜ now (room .exit) ≡ rowBytes row ⌝ }
 {
     let rule = row.rule;
     let lengths = row.lengths;
-    [
-        row.required as u8,
-        number_of(rule),
-        (lengths >> 24) as u8,
-        ((lengths >> 16) % 256) as u8,
-        ((lengths >> 8) % 256) as u8,
-        (lengths % 256) as u8,
-    ]
+    room[0] = row.required as u8;
+    room[1] = number_of(rule);
+    room[2] = (lengths >> 24) as u8;
+    room[3] = ((lengths >> 16) % 256) as u8;
+    room[4] = ((lengths >> 8) % 256) as u8;
+    room[5] = (lengths % 256) as u8;
 }
 
-pub(crate) fn write_table(edition: Edition, room: &mut [u8])
-    requires { ⌜ length (now room) ≡ 102 ⌝ }
-    ensures { λ _. ⌜ now (room .exit) ≡ tableBytes edition ⌝ }
+// Fills a room with the table of an edition; a room of another size is left as it is.
+pub fn write_table(edition: Edition, room: &mut [u8])
+    ensures { λ _. ⌜ now (room .exit) ≡ lentTable edition (now (room .entry)) ⌝ }
 {
+    if room.len() != 102 {
+        return;
+    }
     let mut k: usize = 0;
     while k < 17 {
-        let row = bytes_of(edition.rows[k]);
+        let row = edition.rows[k];
         let at = k * 6;
         let end = at + 6;
-        bytes::copy(&row, &mut room[at..end]);
+        write_row(row, &mut room[at..end]);
         k += 1;
     }
 }

@@ -7,7 +7,7 @@ use mathlib.Core.Path.{_≡_, refl, sym, ap, _∙_}
 use mathlib.Core.List.{List, [], _∷_, _++_, map, map-append, append-assoc, append-nil}
 use lib.ListN.{length, getD, take, drop, set, length-append, length-drop}
 use lib.Seq.{take-suc, take-suc-set, take-all, take-at, drop-drop, length-take-le}
-use Rattle.kvk.specs.Bytes.{pieces, joined}
+use Rattle.tables.specs.Bytes.{pieces, joined}
 
 -- one piece more
 pub pieces-more : (size n : ℕ) (bs : List ℕ) → pieces size (suc n) bs ≡ pieces size n bs ++ (take size (drop (n * size) bs) ∷ [])

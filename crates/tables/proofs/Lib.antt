@@ -1,0 +1,4 @@
+-- Laws that the proofs of `tables` share.
+pub mod Pieces
+pub mod Sizes
+pub mod RoundTrips

@@ -1,0 +1,20 @@
+-- `tables::edition_of` meets its contract. Assumes nothing.
+use borrow.Author.Tests.{ne-eqb}
+use Rattle.tables.specs.Tables.{editionOf, lentEdition}
+use borrow.Author.Needs.{needs}
+use Rattle.tables.proofs.edition_of.Statement.{statement}
+use Rattle.tables.proofs.edition_of.Tie as tie
+
+returns : tie.Need-returns
+unfolding lentEdition
+returns c = rw (ne-eqb _ _ (c .if1 .taken))
+
+rows-of-requires : tie.Need-rows-of-requires
+rows-of-requires c κs = search needs
+
+returns-2 : tie.Need-returns-2
+unfolding lentEdition editionOf
+returns-2 c = rw (c .before .if1 .left, c .rows-of .ensures)
+
+pub edition-of-spec : {M : Type 1} → statement M
+edition-of-spec = tie.close (tie.spec returns rows-of-requires returns-2)

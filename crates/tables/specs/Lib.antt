@@ -1,0 +1,3 @@
+-- Editions as lent bytes.
+pub mod Bytes
+pub mod Tables
