@@ -3,7 +3,7 @@ use crate::bytes;
 use card::Object;
 use card::Record;
 ghost use mathlib.Core.Path.{_≡_};
-ghost use Prim.Native.Nat.{ℕ, _+_, _≤_};
+ghost use Prim.Native.Nat.{_+_, _≤_};
 ghost use lib.ListN.{length};
 ghost use lib.Seq.{sets};
 ghost use Rattle.card.specs.Content.{valueOf, contentOf};

@@ -4,7 +4,7 @@ use borrow.Author.Tests.{ne-eqb}
 use Rattle.card.specs.Refusals.{gate}
 use Rattle.frame.specs.declared.field.Span.{Span}
 use Rattle.frame.specs.Frame.{fieldWrong, fieldOf, startOf, endOf}
-use Rattle.frame.specs.Checks.{spanOf, backRefusal, Framed}
+use Rattle.frame.specs.Checks.{spanOf, backRefusal}
 use Rattle.frame.proofs.Extents.{framed}
 use borrow.Author.Needs.{needs}
 use Rattle.frame.proofs.check_back.Statement.{statement}

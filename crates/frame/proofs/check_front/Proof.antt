@@ -1,5 +1,4 @@
 -- `frame::check_front` meets its contract. Assumes nothing.
-use mathlib.Core.Path.{_≡_, ap}
 use Rattle.frame.specs.Frame.{startOf, endOf}
 use Rattle.frame.specs.Checks.{spanOf, frontOf}
 use borrow.Author.Needs.{needs}

@@ -6,7 +6,6 @@ use lib.ListN.{length}
 use denote.Ref.{now}
 use Rattle.rules.proofs.Lists.{and-left, and-right}
 use Rattle.objects.specs.Objects.{listed}
-use borrow.Author.Needs.{needs}
 use Rattle.objects.proofs.list_objects.Statement.{statement}
 use Rattle.objects.proofs.list_objects.Tie as tie
 

@@ -1,7 +1,7 @@
 -- `frame::field::read_span` meets its contract. Assumes nothing.
 use mathlib.Core.Path.{_∙_, sym, ap}
 use native.Mathlib.Omega.{arith}
-use lib.ListN.{length, drop-of-length-le}
+use lib.ListN.{drop-of-length-le}
 use Rattle.card.specs.Fields.{lengthAt}
 use Rattle.card.proofs.Forms.{told-apart}
 use Rattle.frame.specs.Checks.{spanOf}

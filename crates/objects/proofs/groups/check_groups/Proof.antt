@@ -1,6 +1,5 @@
 -- `objects::groups::check_groups` meets its contract: the names first. Assumes nothing.
 use mathlib.Core.Path.{sym, _∙_}
-use native.Mathlib.Omega.{arith}
 use borrow.Author.Tests.{not-true, not-false}
 use Rattle.card.specs.Refusals.{gate}
 use Rattle.objects.specs.Groups.{groupsRefusal}
