@@ -1,6 +1,10 @@
 -- A refusal: number, place, tag, and with number 7 the ends of the row's length set.
 use Prim.Native.Nat.{ℕ}
-use mathlib.Core.Bool.{Bool, true, false}
+use mathlib.Core.Bool.{Bool, true, false, cond}
+use lib.Dec.{eqb}
+use Rattle.edition.specs.declared.Formed.{Formed}
+use Rattle.edition.specs.declared.Formed.the-variants.{Well, Bad}
+use Rattle.edition.specs.Rows.{tagOf}
 use Rattle.edition.specs.Sets.{shortestOf, longestOf}
 use Rattle.card.specs.declared.Refusal.{Refusal}
 
@@ -18,3 +22,12 @@ none = refuse 0 0 0
 unfoldable pub gate : {A : Type 0} → Bool → A → A → A
 gate true x w = w
 gate false x w = x
+
+-- the first of two refusals; the number of none is 0
+unfoldable pub orElse : Refusal → Refusal → Refusal
+orElse a b = cond (eqb (a .number) 0) b a
+
+-- 2: the tag of the first bad row
+unfoldable pub badRow : Formed → Refusal
+badRow Well = none
+badRow (Bad k) = refuse 2 0 (tagOf k)

@@ -1,10 +1,12 @@
 // What a card is: the record, the refusal, and the pieces that reader and writer share.
+mod editions;
 mod ends;
 mod fields;
 mod filler;
 mod sum;
 mod sums;
 
+pub use editions::refuse_edition;
 pub use ends::allows_first;
 pub use ends::allows_last;
 pub use fields::LengthField;

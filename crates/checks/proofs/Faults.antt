@@ -17,10 +17,10 @@ use Rattle.card.specs.declared.Record.{Record}
 use Rattle.card.specs.declared.Refusal.{Refusal}
 use Rattle.card.specs.Content.{valueOf, contentOf}
 use Rattle.card.specs.Layout.{objectTags}
-use Rattle.card.specs.Refusals.{none}
+use Rattle.card.specs.Refusals.{none, orElse}
 use Rattle.card.specs.Rules.{entries, objectRows, met, missing, length-out, ofVerdict, fault}
 use Rattle.checks.specs.Refusing.{rowRefusal, rowsRefusal}
-use Rattle.checks.specs.Checking.{orElse, entryOf}
+use Rattle.checks.specs.Checking.{entryOf}
 use Rattle.checks.specs.Checking.{absent}
 use Rattle.checks.proofs.Items.{tags-cons}
 use Rattle.checks.proofs.Order.{or-pass, or-stop, row-or}

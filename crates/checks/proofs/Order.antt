@@ -13,10 +13,10 @@ use Rattle.edition.specs.declared.Formed.the-variants.{Well, Bad}
 use Rattle.edition.specs.Rows.{formedFrom}
 use Rattle.card.specs.declared.Refusal.{Refusal}
 use Rattle.card.specs.Content.{Content}
-use Rattle.card.specs.Refusals.{refuse, none, gate}
+use Rattle.card.specs.Refusals.{refuse, none, gate, orElse, badRow}
 use Rattle.card.specs.Rules.{Entry, Fault, met, missing, length-out, byte-out, value-out, fault, objectRows, firstAllowed, lastAllowed, namesFit, townFits}
 use Rattle.checks.specs.Refusing.{rowRefusal, rowsRefusal, orBad, groupRefusal, refusal}
-use Rattle.checks.specs.Checking.{orElse, endsRefusal, sumsRefusal, templateRefusal}
+use Rattle.checks.specs.Checking.{endsRefusal, sumsRefusal, templateRefusal}
 
 -- ---- the first of two
 pub or-pass : (a b : Refusal) → a .number ≡ 0 → orElse a b ≡ b
@@ -53,6 +53,11 @@ table-or : (f : Formed) (w : Refusal) → orBad f w ≡ orElse (orBad f none) w
 unfolding orBad orElse
 table-or Well w = refl
 table-or (Bad k) w = refl
+
+pub bad-or : (f : Formed) → badRow f ≡ orBad f none
+unfolding badRow orBad
+bad-or Well = refl
+bad-or (Bad k) = refl
 
 pub table-well : (f : Formed) → orBad f none .number ≡ 0 → f ≡ Well
 unfolding orBad

@@ -1,8 +1,8 @@
 -- The parts of a refusal, each as its check tells it.
 use Prim.Native.Nat.{ℕ}
-use mathlib.Core.Bool.{cond, _&&_}
+use mathlib.Core.Bool.{_&&_}
 use mathlib.Core.List.{List, []}
-use lib.Dec.{leb, eqb}
+use lib.Dec.{leb}
 use Rattle.edition.specs.declared.Row.{Row}
 use Rattle.card.specs.declared.Object.{Object}
 use Rattle.card.specs.declared.Refusal.{Refusal}
@@ -11,10 +11,6 @@ use Rattle.card.specs.Refusals.{refuse, none, gate}
 use Rattle.card.specs.Layout.{templateLength, objectsOf}
 use Rattle.card.specs.Rules.{Entry, firstAllowed, lastAllowed, namesFit, townFits}
 use Rattle.checks.specs.Refusing.{groupRefusal}
-
--- the first of two refusals; the number of none is 0
-unfoldable pub orElse : Refusal → Refusal → Refusal
-orElse a b = cond (eqb (a .number) 0) b a
 
 abbrev pub entryOf : ℕ → Row → Entry
 entryOf tag row = record { tag = tag; row = row }

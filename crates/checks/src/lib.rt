@@ -7,24 +7,11 @@ mod sizes;
 use card::Record;
 use card::Refusal;
 use edition::Edition;
-use edition::Formed;
 pub use objects::objects_size;
 ghost use mathlib.Core.Path.{_≡_};
-ghost use Rattle.edition.specs.Rows.{formedFrom};
 ghost use Rattle.card.specs.Content.{contentOf};
-ghost use Rattle.card.specs.Refusals.{none};
-ghost use Rattle.checks.specs.Refusing.{orBad, refusal};
+ghost use Rattle.checks.specs.Refusing.{refusal};
 ghost use Rattle.checks.specs.Checking.{endsRefusal};
-
-// 2: the first bad row of the table.
-fn check_table(edition: Edition) -> Refusal
-    ensures { λ r. ⌜ r ≡ orBad (formedFrom 0 (edition .rows)) none ⌝ }
-{
-    match edition.formed() {
-        Formed::Well => Refusal::NONE,
-        Formed::Bad(row) => Refusal::new(2, 0, edition::tag_of(row)),
-    }
-}
 
 // 3: address 0 and the last byte.
 fn check_ends(first: u8, last: u8) -> Refusal
@@ -44,7 +31,7 @@ pub fn check(edition: Edition, content: Record, size: usize) -> Refusal
     if size != 256 {
         return Refusal::new(20, 0, 0);
     }
-    let table = check_table(edition);
+    let table = card::refuse_edition(edition);
     if table.number != 0 {
         return table;
     }

@@ -1,7 +1,7 @@
 // Which of two refusals is told.
 use card::Refusal;
 ghost use mathlib.Core.Path.{_≡_};
-ghost use Rattle.checks.specs.Checking.{orElse};
+ghost use Rattle.card.specs.Refusals.{orElse};
 
 // The first of two refusals.
 pub(crate) fn first_of(a: Refusal, b: Refusal) -> Refusal

@@ -8,7 +8,8 @@ ghost use Prim.Native.Nat.{_<_, _≤_};
 ghost use Rattle.card.specs.Content.{contentOf};
 ghost use Rattle.card.specs.Rules.{lengthOf, namesFit, townFits, firstPresent};
 ghost use Rattle.checks.specs.Refusing.{groupRefusal};
-ghost use Rattle.checks.specs.Checking.{orElse, sumsRefusal, templateRefusal};
+ghost use Rattle.card.specs.Refusals.{orElse};
+ghost use Rattle.checks.specs.Checking.{sumsRefusal, templateRefusal};
 
 // The length of the k-th value.
 fn length_at(content: Record, k: usize) -> usize

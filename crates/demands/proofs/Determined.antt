@@ -16,6 +16,7 @@ use Rattle.card.proofs.Record.empty.Reads as empty
 use Rattle.card.proofs.Refusal.new.Reads as new
 use Rattle.card.proofs.Refusal.of_length.Reads as of-length
 use Rattle.card.proofs.Refusal.none.Reads as none
+use Rattle.card.proofs.refuse_edition.Reads as refuse-edition
 use Rattle.card.proofs.allows_first.Reads as allows-first
 use Rattle.card.proofs.allows_last.Reads as allows-last
 use Rattle.card.proofs.count_spaces.Reads as count-spaces
@@ -69,6 +70,9 @@ of-length-once κs a z y e f p q = p ∙ sym q
 
 pub none-once : (κs : _) (a : _) (z y : _) (e f : _) → none.Post κs a z e → none.Post κs a y f → z ≡ y
 none-once κs a z y e f p q = p ∙ sym q
+
+pub refuse-edition-once : (κs : _) (a : _) (z y : _) (e f : _) → refuse-edition.Post κs a z e → refuse-edition.Post κs a y f → z ≡ y
+refuse-edition-once κs a z y e f p q = p ∙ sym q
 
 pub allows-first-once : (κs : _) (a : _) (z y : _) (e f : _) → allows-first.Post κs a z e → allows-first.Post κs a y f → z ≡ y
 allows-first-once κs a z y e f p q = p ∙ sym q

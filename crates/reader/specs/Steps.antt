@@ -7,11 +7,9 @@ use lib.Dec.{eqb}
 use lib.ListN.{length, take, getD}
 use Rattle.edition.specs.declared.Row.{Row}
 use Rattle.edition.specs.declared.Edition.{Edition}
-use Rattle.edition.specs.declared.Formed.{Formed}
-use Rattle.edition.specs.declared.Formed.the-variants.{Well, Bad}
-use Rattle.edition.specs.Rows.{tags, tagOf, formedFrom}
+use Rattle.edition.specs.Rows.{tags, formedFrom}
 use Rattle.card.specs.declared.Refusal.{Refusal}
-use Rattle.card.specs.Refusals.{refuse, none, gate}
+use Rattle.card.specs.Refusals.{refuse, gate, orElse, badRow}
 use Rattle.card.specs.Rules.{entries, firstAllowed}
 use Rattle.frame.specs.Frame.{headEnd, fieldWrong, fieldOf, startOf, endOf, templateOf}
 use Rattle.frame.specs.Checks.{backRefusal}
@@ -21,11 +19,6 @@ use Rattle.objects.specs.Objects.{refusalAt, valuesAt}
 use Rattle.objects.specs.Groups.{groupsRefusal}
 use Rattle.reader.specs.declared.Inspection.{Inspection}
 use Rattle.reader.specs.Reading.{Answer, accepted, refused, contentAt, behind}
-
--- 2: the tag of the first bad row
-unfoldable pub badRow : Formed → Refusal
-badRow Well = none
-badRow (Bad k) = refuse 2 0 (tagOf k)
 
 -- 1 and 2, of an image of n bytes
 unfoldable pub inputRefusal : Edition → ℕ → Refusal
@@ -38,9 +31,6 @@ pub record Inside (s starts lengths : List ℕ) : Type 0 where
   pub short : (k : ℕ) → k < 16 → getD lengths k 0 ≤ 28
 
 -- ---- the objects and what is behind them
-abbrev pub orElse : Refusal → Refusal → Refusal
-orElse x y = cond (eqb (x .number) 0) y x
-
 unfoldable pub listingRefusal : List ℕ → List Row → Listing → Refusal
 listingRefusal s rows l =
     gate (eqb (l .number) 0) (refusalAt rows l)

@@ -1,6 +1,6 @@
 -- `checks::refusals::first_of` meets its contract. Assumes nothing.
 use borrow.Author.Tests.{eq-eqb, ne-eqb}
-use Rattle.checks.specs.Checking.{orElse}
+use Rattle.card.specs.Refusals.{orElse}
 use Rattle.checks.proofs.refusals.first_of.Statement.{statement}
 use Rattle.checks.proofs.refusals.first_of.Tie as tie
 

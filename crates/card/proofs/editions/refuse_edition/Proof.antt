@@ -1,11 +1,11 @@
--- `checks::check_table` meets its contract: the answer of `formed` is the first bad row, or none. Assumes nothing.
+-- `card::editions::refuse_edition` meets its contract: the answer of `formed` is the first bad row, or none. Assumes nothing.
 use mathlib.Core.Path.{_≡_, sym, _∙_}
 use Rattle.edition.specs.Rows.{formedFrom}
 use Rattle.edition.proofs.Rows.{told-apart}
-use Rattle.checks.specs.Refusing.{orBad}
+use Rattle.card.specs.Refusals.{badRow}
 use borrow.Author.Needs.{needs}
-use Rattle.checks.proofs.check_table.Statement.{statement}
-use Rattle.checks.proofs.check_table.Tie as tie
+use Rattle.card.proofs.editions.refuse_edition.Statement.{statement}
+use Rattle.card.proofs.editions.refuse_edition.Tie as tie
 
 formed-requires : tie.Need-formed-requires
 formed-requires c κs = search needs
@@ -26,17 +26,17 @@ new-requires : tie.Need-new-requires
 new-requires c κs = search needs
 
 returns : tie.Need-returns
-unfolding orBad
+unfolding badRow
 returns c = rw (formed-is (c .before .before) ∙ c .enum-told .given .1)
 
 returns-2 : tie.Need-returns-2
-unfolding orBad
+unfolding badRow
 returns-2 c =
     let k = c .before .before .before in
     rw (formed-is (k .before .before) ∙ k .row .given .1, ← c .before .tag-of .ensures) (c .new .ensures)
 
-pub check-table-spec : {M : Type 1} → statement M
-check-table-spec =
+pub refuse-edition-spec : {M : Type 1} → statement M
+refuse-edition-spec =
     tie.close
     (tie.spec
     formed-requires
