@@ -3,9 +3,11 @@ use edition::Edition;
 use edition::Row;
 use rules::Rule;
 ghost use mathlib.Core.Path.{_≡_};
+ghost use mathlib.Core.Bool.{cond, _&&_};
+ghost use lib.Dec.{leb};
 ghost use lib.ListN.{length};
 ghost use Rattle.tables.specs.Bytes.{fourBytes};
-ghost use Rattle.tables.specs.Tables.{numberOf, ruleOf, rowOf, editionOf, lentEdition, rowBytes, lentTable};
+ghost use Rattle.tables.specs.Tables.{numberOf, ruleOf, editionOf, lentEdition, rowBytes, lentTable};
 
 fn number_of(rule: Rule) -> u8
     ensures { λ r. ⌜ r ≡ numberOf rule ⌝ }
@@ -41,22 +43,14 @@ fn four_bytes(a: u8, b: u8, c: u8, d: u8) -> u32
     ((a as u32 * 256 + b as u32) * 256 + c as u32) * 256 + d as u32
 }
 
-// The row of six bytes; its set is empty where one of the first two is no number of the format.
-fn row_of(bytes: &[u8]) -> Row
-    requires { ⌜ length (now bytes) ≡ 6 ⌝ }
-    ensures { λ r. ⌜ r ≡ rowOf (now (bytes .entry)) ⌝ }
+// The set of a row; empty where one of the row's first two bytes is no number of the format.
+fn lengths_of(required: u8, rule: u8, lengths: u32) -> u32
+    ensures { λ r. ⌜ r ≡ cond (leb required 1 && leb rule 6) lengths 0 ⌝ }
 {
-    let required = bytes[0];
-    let rule = bytes[1];
-    let lengths = four_bytes(bytes[2], bytes[3], bytes[4], bytes[5]);
-    Row {
-        required: required == 1,
-        rule: rule_of(rule),
-        lengths: if (required <= 1) & (rule <= 6) {
-            lengths
-        } else {
-            0
-        },
+    if (required <= 1) & (rule <= 6) {
+        lengths
+    } else {
+        0
     }
 }
 
@@ -74,8 +68,14 @@ fn rows_of(table: &[u8]) -> [Row; 17]
     let mut k: usize = 0;
     while k < 17 {
         let at = k * 6;
-        let end = at + 6;
-        rows[k] = row_of(&table[at..end]);
+        let required = table[at];
+        let rule = table[at + 1];
+        let lengths = four_bytes(table[at + 2], table[at + 3], table[at + 4], table[at + 5]);
+        rows[k] = Row {
+            required: required == 1,
+            rule: rule_of(rule),
+            lengths: lengths_of(required, rule, lengths),
+        };
         k += 1;
     }
     rows

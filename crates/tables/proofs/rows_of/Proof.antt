@@ -7,7 +7,8 @@ use borrow.Author.Needs.{needs}
 use lib.ListN.{length, take, length-set}
 use Rattle.tables.specs.Bytes.{pieces}
 use Rattle.tables.specs.Tables.{rowOf, editionOf}
-use Rattle.tables.proofs.Pieces.{part-length, stored-more, stored-all}
+use Rattle.tables.proofs.Pieces.{stored-more, stored-all}
+use Rattle.tables.proofs.RowsAt.{row-at}
 use Rattle.tables.proofs.rows_of.Statement.{statement}
 use Rattle.tables.proofs.rows_of.Tie as tie
 
@@ -24,22 +25,47 @@ loop-holds c = (search needs, refl, refl)
 mul-at : tie.Need-mul-at Inv-loop μ-loop
 mul-at c = search needs
 
-add-end : tie.Need-add-end Inv-loop μ-loop
-add-end c = search needs
+shared-slice-read-required : tie.Need-shared-slice-read-required Inv-loop μ-loop
+shared-slice-read-required c = search needs
 
-sub-row-of : tie.Need-sub-row-of Inv-loop μ-loop
-sub-row-of c = search needs
+add-rule : tie.Need-add-rule Inv-loop μ-loop
+add-rule c = search needs
 
-part-row-of-start : tie.Need-part-row-of-start Inv-loop μ-loop
-part-row-of-start c = search needs
+shared-slice-read-rule : tie.Need-shared-slice-read-rule Inv-loop μ-loop
+shared-slice-read-rule c = search needs
 
-part-row-of-end : tie.Need-part-row-of-end Inv-loop μ-loop
-part-row-of-end c = search needs
+add-four-bytes : tie.Need-add-four-bytes Inv-loop μ-loop
+add-four-bytes c = search needs
 
-row-of-requires : tie.Need-row-of-requires Inv-loop μ-loop
-row-of-requires c κs =
-    let h : c .before .before .loop .k * 6 + 6 ≤ length (c .before .before .before .before .args .table .now) = omega arith in
-    part-length _ _ 6 h
+shared-slice-read-four-bytes : tie.Need-shared-slice-read-four-bytes Inv-loop μ-loop
+shared-slice-read-four-bytes c = search needs
+
+add-four-bytes-2 : tie.Need-add-four-bytes-2 Inv-loop μ-loop
+add-four-bytes-2 c = search needs
+
+shared-slice-read-four-bytes-2 : tie.Need-shared-slice-read-four-bytes-2 Inv-loop μ-loop
+shared-slice-read-four-bytes-2 c = search needs
+
+add-four-bytes-3 : tie.Need-add-four-bytes-3 Inv-loop μ-loop
+add-four-bytes-3 c = search needs
+
+shared-slice-read-four-bytes-3 : tie.Need-shared-slice-read-four-bytes-3 Inv-loop μ-loop
+shared-slice-read-four-bytes-3 c = search needs
+
+add-four-bytes-4 : tie.Need-add-four-bytes-4 Inv-loop μ-loop
+add-four-bytes-4 c = search needs
+
+shared-slice-read-four-bytes-4 : tie.Need-shared-slice-read-four-bytes-4 Inv-loop μ-loop
+shared-slice-read-four-bytes-4 c = search needs
+
+four-bytes-requires : tie.Need-four-bytes-requires Inv-loop μ-loop
+four-bytes-requires c κs = search needs
+
+rule-of-requires : tie.Need-rule-of-requires Inv-loop μ-loop
+rule-of-requires c κs = search needs
+
+lengths-of-requires : tie.Need-lengths-of-requires Inv-loop μ-loop
+lengths-of-requires c κs = search needs
 
 mul-rows : tie.Need-mul-rows Inv-loop μ-loop
 mul-rows c = search needs
@@ -55,9 +81,15 @@ loop-less c = search needs
 
 loop-again : tie.Need-loop-again Inv-loop μ-loop
 loop-again c =
-    let l = c .before .before .before .loop in
-    let h : l .k < length (l .rows) = omega arith in
-    (search needs, simp length-set (omega arith), stored-more rowOf 6 _ (l .rows) (l .k) (l .inv .2) h (c .row-of .ensures))
+    let b = c .before .before .before .before .before .before .before .before .before .before in
+    let l = b .loop in
+    let six : l .k * 6 + 6 - l .k * 6 ≡ 6 = omega arith in
+    let h : l .k < length (l .rows) = omega arith in (
+      search needs,
+      simp length-set (omega arith),
+      stored-more rowOf 6 _ (l .rows) (l .k) (l .inv .2) h
+          (rw (c .lengths-of .ensures, c .before .rule-of .ensures, c .before .before .four-bytes .ensures, six) (row-at (b .before .before .args .table .now) (l .k * 6))),
+    )
 
 returns : tie.Need-returns Inv-loop μ-loop
 unfolding editionOf
@@ -74,11 +106,20 @@ rows-of-spec =
     μ-loop
     loop-holds
     mul-at
-    add-end
-    sub-row-of
-    part-row-of-start
-    part-row-of-end
-    row-of-requires
+    shared-slice-read-required
+    add-rule
+    shared-slice-read-rule
+    add-four-bytes
+    shared-slice-read-four-bytes
+    add-four-bytes-2
+    shared-slice-read-four-bytes-2
+    add-four-bytes-3
+    shared-slice-read-four-bytes-3
+    add-four-bytes-4
+    shared-slice-read-four-bytes-4
+    four-bytes-requires
+    rule-of-requires
+    lengths-of-requires
     mul-rows
     array-set-from-rows
     add-k
