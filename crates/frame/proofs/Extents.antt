@@ -48,7 +48,7 @@ module _ (s : List ℕ) (long : length s ≡ 256) (right : fieldWrong (fieldOf s
   unfolding endOf startOf
   framed =
       let x = extent (drop 31 s) right in
-      record { long = long; is = refl; least = omega arith; most = omega (arith, x .used, x .most) }
+      record { long = long; is = refl; least = omega (arith, x .least); most = omega (arith, x .used, x .most) }
 
   pub ordered : startOf s ≤ endOf s
   unfolding endOf

@@ -48,5 +48,5 @@ backRefusal s =
 pub record Framed (s : List ℕ) (end : ℕ) : Type 0 where
   pub long : length s ≡ 256
   pub is : end ≡ endOf s
-  pub least : 31 ≤ end
+  pub least : 101 ≤ end
   pub most : end ≤ 253
