@@ -39,7 +39,7 @@ rowOf bs = record {
 unfoldable pub editionOf : List ℕ → Edition
 editionOf bs = record { rows = map rowOf (pieces 6 17 bs) }
 
--- an edition with no good row
+-- a table of another size gives an edition with no good row
 abbrev pub noEdition : Edition
 noEdition = record { rows = replicate 17 noRow }
 
