@@ -7,3 +7,10 @@ pub mod Layouts
 pub mod Octets
 pub mod Room
 pub mod Stores
+pub mod Chains
+pub mod Walks
+pub mod Seventeen
+pub mod FieldsRead
+pub mod LastRow
+pub mod Readings
+pub mod Starts

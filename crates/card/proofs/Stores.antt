@@ -5,8 +5,11 @@ use Prim.Native.Nat.{ℕ, suc, _+_, _-_, _≤_, _<_}
 use native.Mathlib.Nat.{add-suc, suc-add, add-zero}
 use native.Mathlib.Numerals.{add-one}
 use native.Mathlib.Omega.{arith}
+use borrow.Author.Tests.{eqb-true, eqb-false}
+use mathlib.Core.Bool.{Bool, true, false}
+use lib.Dec.{eqb}
 use lib.ListN.{length, getD, take, drop, set, drop-of-length-le, length-drop, replicate, length-replicate, replicate-append-replicate}
-use lib.Seq.{sets, sets-eq, take-all, take-suc, take-at, drop-at, length-take-le}
+use lib.Seq.{sets, sets-eq, take-all, take-suc, take-at, drop-at, length-take-le, getD-set-same, getD-set-other}
 
 -- two runs, the second behind the first, are one
 sets-append : (l : List ℕ) (i : ℕ) (xs ys : List ℕ) → sets (sets l i xs) (i + length xs) ys ≡ sets l i (xs ++ ys)
@@ -59,3 +62,11 @@ pub lent-end-back : (l ys : List ℕ) (a : ℕ) → take a l ++ (ys ++ drop (len
 lent-end-back l ys a =
     let h : length (drop a l) ≤ length l - a = simp length-drop (omega arith) in
     rw (drop-of-length-le (drop a l) h, append-nil)
+
+-- ---- a list filled by its index: what holds below i, and of what is stored at i, holds below i + 1
+pub filled-more : (l : List ℕ) (f : ℕ → ℕ) (i v : ℕ) → i < length l → v ≡ f i → ((k : ℕ) → k < i → getD l k 0 ≡ f k) → (k : ℕ) → k < i + 1 → getD (set l i v) k 0 ≡ f k
+filled-more l f i v h is below k lt = go (eqb k i) refl
+  where
+    go : (q : Bool) → eqb k i ≡ q → getD (set l i v) k 0 ≡ f k
+    go true e = rw (eqb-true k i e, getD-set-same l i v 0 h) is
+    go false e = rw (getD-set-other l i k v 0 (eqb-false k i e)) (below k (omega (arith, eqb-false k i e)))

@@ -29,3 +29,7 @@ recordOf c = record { first = c .first; free = c .free; last = c .last; objects 
 unfoldable pub emptyRecord : Record
 unfolding recordOf objectOf
 emptyRecord = recordOf (record { first = 0; free = replicate 12 0; last = 0; values = replicate 16 [] })
+
+-- what stands past the end of a list of objects
+abbrev pub noObject : Object
+noObject = record { length = 0; bytes = [] }

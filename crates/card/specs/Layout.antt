@@ -29,6 +29,10 @@ body ts [] = []
 body [] (v ∷ vs) = []
 body (t ∷ ts) (v ∷ vs) = object t v ++ body ts vs
 
+-- where the tag of object i stands, if the objects begin at `at`
+unfoldable pub tagAt : ℕ → List (List ℕ) → ℕ → ℕ
+tagAt at vs i = at + length (body (take i tags) (take i vs))
+
 -- the exclusive or of all bytes
 unfoldable pub xorAll : List ℕ → ℕ
 xorAll [] = 0
@@ -61,6 +65,10 @@ objectTags = take 16 tags
 
 abbrev pub objectsOf : Content → List ℕ
 objectsOf c = body objectTags (c .values)
+
+-- the address where the objects start: behind the template's tag, at 30, and its length field
+abbrev pub objectsAt : Content → ℕ
+objectsAt c = 31 + length (lengthField (templateLength (objectsOf c)))
 
 unfoldable pub layout : Content → List ℕ
 layout c =

@@ -27,6 +27,10 @@ gate false x w = x
 unfoldable pub orElse : Refusal → Refusal → Refusal
 orElse a b = cond (eqb (a .number) 0) b a
 
+-- an image or a buffer of n bytes has not 256
+abbrev pub sizeRefusal : ℕ → ℕ → Refusal
+sizeRefusal number n = gate (eqb n 256) (refuse number 0 0) none
+
 -- 2: the tag of the first bad row
 unfoldable pub badRow : Formed → Refusal
 badRow Well = none

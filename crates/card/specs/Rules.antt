@@ -2,7 +2,7 @@
 use Prim.Native.Nat.{ℕ, _+_, _≤_}
 use mathlib.Core.Path.{_≡_}
 use mathlib.Core.Bool.{Bool, true, false, cond, _&&_, _||_}
-use mathlib.Core.List.{List, [], _∷_}
+use mathlib.Core.List.{List, [], _∷_, map}
 use lib.Dec.{leb, eqb}
 use lib.ListN.{length, drop, getD}
 use Rattle.edition.specs.declared.Row.{Row}
@@ -78,25 +78,20 @@ sumFits alone a b c =
     cond (leb (countPresent a b c) 1) alone
     (cond (eqb (countPresent a b c) 2) (leb (a + b + c) 27) (leb (a + b + c) 26))
 
-abbrev pub lengthOf : List (List ℕ) → ℕ → ℕ
-lengthOf vs k = length (getD vs k [])
-
--- of 84, 85, 86 one alone: 84 or 86 at most 15 bytes and 85 at most 28
-unfoldable pub namesFit : List (List ℕ) → Bool
-namesFit vs =
-    sumFits (leb (lengthOf vs 6) 15 && leb (lengthOf vs 7) 28 && leb (lengthOf vs 8) 15)
-    (lengthOf vs 6) (lengthOf vs 7) (lengthOf vs 8)
+-- of 84, 85, 86, by the lengths of the sixteen values; one alone: 84 or 86 at most 15 bytes and 85 at most 28
+unfoldable pub namesFit : List ℕ → Bool
+namesFit ns = sumFits (leb (getD ns 6 0) 15 && leb (getD ns 7 0) 28 && leb (getD ns 8 0) 15) (getD ns 6 0) (getD ns 7 0) (getD ns 8 0)
 
 -- of 8A, 8B, 8C
-unfoldable pub townFits : List (List ℕ) → Bool
-townFits vs = sumFits true (lengthOf vs 12) (lengthOf vs 13) (lengthOf vs 14)
+unfoldable pub townFits : List ℕ → Bool
+townFits ns = sumFits true (getD ns 12 0) (getD ns 13 0) (getD ns 14 0)
 
 -- a content that an edition allows
 pub record Allowed (e : Edition) (c : Content) : Type 0 where
   pub formed : formedFrom 0 (e .rows) ≡ Well
   pub rows : AllMet (objectRows e) (c .values)
-  pub names : namesFit (c .values) ≡ true
-  pub town : townFits (c .values) ≡ true
+  pub names : namesFit (map length (c .values)) ≡ true
+  pub town : townFits (map length (c .values)) ≡ true
   pub least : 70 ≤ templateLength (objectsOf c)
   pub most : templateLength (objectsOf c) ≤ 212
   pub first : firstAllowed (c .first) ≡ true
@@ -110,9 +105,8 @@ pub record Meets (e : Edition) (image : List ℕ) : Type 0 where
   pub drawn : layout content ≡ image
 
 -- the first object that is present, of those from number k on
-abbrev pub isAbsent : List ℕ → Bool
-isAbsent [] = true
-isAbsent (b ∷ v) = false
+abbrev pub isZero : ℕ → Bool
+isZero n = eqb n 0
 
-abbrev pub firstPresent : ℕ → List (List ℕ) → ℕ
-firstPresent k vs = k + leading isAbsent (drop k vs)
+abbrev pub firstPresent : ℕ → List ℕ → ℕ
+firstPresent k ns = k + leading isZero (drop k ns)

@@ -13,11 +13,11 @@ pub use fields::LengthField;
 pub use fields::read_length;
 pub use filler::count_spaces;
 pub use sum::checksum;
-pub use sums::names_fit;
-pub use sums::town_fits;
+pub use sums::check_sums;
 ghost use mathlib.Core.Path.{_≡_};
 ghost use Rattle.card.specs.Content.{emptyRecord};
 ghost use Rattle.card.specs.Refusals.{refuse, refuseLength, none};
+ghost use Rattle.card.specs.Places.{noPlaces};
 
 // An object's value is its first bytes up to the length; length 0 means absent.
 pub struct Object {
@@ -43,6 +43,20 @@ pub struct Refusal {
     pub tag: u8,
     pub shortest: u8,
     pub longest: u8,
+}
+
+// What a reading gives back.
+pub struct Reading {
+    pub refusal: Refusal,
+    pub content: Record,
+}
+
+// Where the sixteen values stand in an image: the address of each value's first byte, and its length; 0 and 0 where it is
+// absent, and where the image is refused.
+pub struct Places {
+    pub refusal: Refusal,
+    pub starts: [u8; 16],
+    pub lengths: [u8; 16],
 }
 
 const ABSENT: Object = Object {
@@ -103,5 +117,17 @@ impl Refusal {
         ensures { λ r. ⌜ r ≡ none ⌝ }
     {
         Refusal::NONE
+    }
+}
+
+impl Places {
+    pub fn refused(refusal: Refusal) -> Places
+        ensures { λ r. ⌜ r ≡ noPlaces refusal ⌝ }
+    {
+        Places {
+            refusal,
+            starts: [0; 16],
+            lengths: [0; 16],
+        }
     }
 }

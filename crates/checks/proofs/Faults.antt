@@ -19,11 +19,11 @@ use Rattle.card.specs.Content.{valueOf, contentOf}
 use Rattle.card.specs.Layout.{objectTags}
 use Rattle.card.specs.Refusals.{none, orElse}
 use Rattle.card.specs.Rules.{entries, objectRows, met, missing, length-out, ofVerdict, fault}
-use Rattle.checks.specs.Refusing.{rowRefusal, rowsRefusal}
+use Rattle.card.specs.Refusing.{rowRefusal, rowsRefusal}
 use Rattle.checks.specs.Checking.{entryOf}
 use Rattle.checks.specs.Checking.{absent}
 use Rattle.checks.proofs.Items.{tags-cons}
-use Rattle.checks.proofs.Order.{or-pass, or-stop, row-or}
+use Rattle.card.proofs.Chains.{or-pass, or-stop}
 
 -- ---- what is amiss with an object, by the length of its value
 pub fault-absent : (row : Row) (v : List ℕ) → length v ≡ 0 → fault row v ≡ cond (row .required) missing met
@@ -39,9 +39,9 @@ fault-present row (b ∷ v) n e h = ap (λ (k : ℕ). cond (permitted (row .leng
 
 -- ---- the rows from the i-th on
 abbrev pub rowsFrom : ℕ → List Row → List Object → Refusal
-rowsFrom i rs os = rowsRefusal (entries (drop i objectTags) (drop i rs)) (map valueOf (drop i os)) none
+rowsFrom i rs os = rowsRefusal (entries (drop i objectTags) (drop i rs)) (map valueOf (drop i os))
 
-pub rows-start : (e : Edition) (r : Record) → rowsFrom 0 (e .rows) (r .objects) ≡ rowsRefusal (objectRows e) (contentOf r .values) none
+pub rows-start : (e : Edition) (r : Record) → rowsFrom 0 (e .rows) (r .objects) ≡ rowsRefusal (objectRows e) (contentOf r .values)
 unfolding contentOf
 rows-start e r = refl
 
@@ -50,15 +50,13 @@ unfolding tags entries rowsRefusal
 rows-end rs os = refl
 
 module _ (rs : List Row) (os : List Object) (i : ℕ) (h : i < 16) (k : length rs ≡ 17) (all : length os ≡ 16) (tag : ℕ) (tagged : tag ≡ tagOf i) {told : Refusal}
-    (is : told ≡ rowRefusal (entryOf tag (getD rs i noRow)) (fault (getD rs i noRow) (valueOf (getD os i absent))) none) where
+    (is : told ≡ rowRefusal (entryOf tag (getD rs i noRow)) (fault (getD rs i noRow) (valueOf (getD os i absent)))) where
   rows-cons : rowsFrom i rs os ≡ orElse told (rowsFrom (i + 1) rs os)
   unfolding entries rowsRefusal
   rows-cons =
       let hr : i < length rs = omega arith in
       let ho : i < length os = omega arith in
-      let e : rowsFrom i rs os ≡ rowRefusal (entryOf tag (getD rs i noRow)) (fault (getD rs i noRow) (valueOf (getD os i absent))) (rowsFrom (i + 1) rs os) =
-      rw tagged (simp (tags-cons i h, drop-cons rs i noRow hr, drop-cons os i absent ho, add-one)) in
-      rw is (e ∙ row-or (entryOf tag (getD rs i noRow)) (fault (getD rs i noRow) (valueOf (getD os i absent))) (rowsFrom (i + 1) rs os))
+      rw (is, tagged) (simp (tags-cons i h, drop-cons rs i noRow hr, drop-cons os i absent ho, add-one))
 
   pub rows-pass : told .number ≡ 0 → rowsFrom (i + 1) rs os ≡ rowsFrom i rs os
   rows-pass z = sym (rows-cons ∙ or-pass told (rowsFrom (i + 1) rs os) z)

@@ -1,3 +1,2 @@
 -- What a record is refused with.
-pub mod Refusing
 pub mod Checking

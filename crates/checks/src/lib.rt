@@ -10,8 +10,7 @@ use edition::Edition;
 pub use objects::objects_size;
 ghost use mathlib.Core.Path.{_≡_};
 ghost use Rattle.card.specs.Content.{contentOf};
-ghost use Rattle.checks.specs.Refusing.{refusal};
-ghost use Rattle.checks.specs.Checking.{endsRefusal};
+ghost use Rattle.card.specs.Refusing.{endsRefusal, refusal};
 
 // 3: address 0 and the last byte.
 fn check_ends(first: u8, last: u8) -> Refusal

@@ -8,10 +8,10 @@ ghost use Rattle.card.specs.Content.{valueOf, contentOf};
 ghost use Rattle.card.specs.Layout.{object, objectsOf};
 
 // How long an object's value is.
-pub(crate) fn value_length(item: Object) -> usize
+pub(crate) fn value_length(item: Object) -> u8
     ensures { λ r. ⌜ r ≡ length (valueOf item) ⌝ }
 {
-    item.length as usize
+    item.length
 }
 
 // How many bytes an object takes in the template, with whatever tag.

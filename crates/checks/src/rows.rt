@@ -11,15 +11,14 @@ ghost use Rattle.edition.specs.declared.Formed.the-variants.{Well};
 ghost use Rattle.edition.specs.Rows.{formedFrom};
 ghost use Rattle.rules.specs.Values.{judged};
 ghost use Rattle.card.specs.Content.{valueOf, contentOf};
-ghost use Rattle.card.specs.Refusals.{none};
 ghost use Rattle.card.specs.Rules.{ofVerdict, fault, objectRows};
-ghost use Rattle.checks.specs.Refusing.{rowRefusal, rowsRefusal};
+ghost use Rattle.card.specs.Refusing.{rowRefusal, rowsRefusal};
 ghost use Rattle.checks.specs.Checking.{entryOf};
 
 // 9 and 10: what the row's rule says of a value.
 fn check_value(row: Row, tag: u8, item: Object) -> Refusal
     requires { ⌜ item .length ≤ 28 ⌝ }
-    ensures { λ r. ⌜ r ≡ rowRefusal (entryOf tag row) (ofVerdict (judged (row .rule) (valueOf item))) none ⌝ }
+    ensures { λ r. ⌜ r ≡ rowRefusal (entryOf tag row) (ofVerdict (judged (row .rule) (valueOf item))) ⌝ }
 {
     let rule = row.rule;
     let n = item.length as usize;
@@ -34,7 +33,7 @@ fn check_value(row: Row, tag: u8, item: Object) -> Refusal
 // 6, 7, 9, 10: what a row says of its object.
 fn check_row(row: Row, tag: u8, item: Object) -> Refusal
     requires { ⌜ row .lengths < 2 ^ 29 ⌝ }
-    ensures { λ r. ⌜ r ≡ rowRefusal (entryOf tag row) (fault row (valueOf item)) none ⌝ }
+    ensures { λ r. ⌜ r ≡ rowRefusal (entryOf tag row) (fault row (valueOf item)) ⌝ }
 {
     let n = item.length;
     if n == 0 {
@@ -54,7 +53,7 @@ fn check_row(row: Row, tag: u8, item: Object) -> Refusal
 // The first refusal of the sixteen rows, in card order.
 pub(crate) fn check_rows(edition: Edition, content: Record) -> Refusal
     requires { ⌜ formedFrom 0 (edition .rows) ≡ Well ⌝ }
-    ensures { λ r. ⌜ r ≡ rowsRefusal (objectRows edition) (contentOf content .values) none ⌝ }
+    ensures { λ r. ⌜ r ≡ rowsRefusal (objectRows edition) (contentOf content .values) ⌝ }
 {
     let mut i = 0;
     while i < 16 {

@@ -1,9 +1,5 @@
 -- The theorems: the marked cases; what the reader accepts; nested editions; what the writer writes; the numbers and places of the refusals.
 pub mod Worked
-pub mod WalkLaws
-pub mod Tables
-pub mod Fields
-pub mod Layouts
 pub mod ReadSound
 pub mod ReadComplete
 pub mod Accepts
@@ -11,9 +7,7 @@ pub mod AnyAccepted
 pub mod NestedLaws
 pub mod NestedTest
 pub mod Writes
-pub mod Numbers
-pub mod Addresses
-pub mod Indices
+pub mod ReadingSays
+pub mod WritingSays
 pub mod Library
 pub mod Wrong
-pub mod Determined

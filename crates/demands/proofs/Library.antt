@@ -3,44 +3,40 @@ use Prim.Native.Nat.{ℕ}
 use mathlib.Core.Path.{_≡_, refl, sym, ap, _∙_}
 use mathlib.Core.Logic.{_⊎_, inl, inr}
 use mathlib.Core.Bool.{Bool, true, false, cond}
-use mathlib.Core.List.{List, [], _∷_}
+use mathlib.Core.List.{List}
 use lib.Dec.{eqb}
 use lib.ListN.{length, length-map}
 use borrow.Author.Tests.{eqb-true}
 use Rattle.edition.specs.declared.Edition.{Edition}
-use Rattle.rules.specs.Lists.{among}
-use Rattle.rules.proofs.Lists.{true-false}
 use Rattle.card.specs.declared.Record.{Record}
 use Rattle.card.specs.declared.Refusal.{Refusal}
 use Rattle.card.specs.Content.{Content, contentOf, recordOf, emptyRecord, valueOf}
 use Rattle.card.specs.Refusals.{none}
-use Rattle.card.specs.Layout.{layout}
+use Rattle.card.specs.Layout.{objectsAt, layout}
 use Rattle.card.specs.Rules.{objectRows, AllMet, Allowed, Meets}
 use Rattle.card.proofs.Records.{content-back}
-use Rattle.reader.specs.declared.Reading.{Reading}
-use Rattle.frame.specs.Frame.{startOf}
-use Rattle.reader.specs.Reading.{Answer, accepted, refused, answer, answerOf, reading}
-use Rattle.checks.specs.Refusing.{refusal}
-use Rattle.writer.specs.Writing.{refusalOf, bufferAfter}
+use Rattle.card.specs.declared.Reading.{Reading}
+use Rattle.card.specs.Frame.{startOf}
+use Rattle.card.specs.Reading.{Answer, accepted, refused, answer, answerOf, reading}
+use Rattle.card.specs.Refusing.{refusal}
+use Rattle.card.specs.Writing.{refusalOf, bufferAfter}
 use Rattle.demands.specs.Nested.{Nested, FirstUnmet}
-use Rattle.demands.specs.Demands.{Accepts, Refuses, LentEdition, LentRecord, readingNumbers, Demand1, Demand2, Demand3, Demands, libraryReader, libraryWriter}
+use Rattle.demands.specs.Demands.{Accepts, Refuses, LentEdition, LentRecord, ReadingSays, Demand1, Demand2, InnerReads, same, first, Demand3, Demands, libraryReader, libraryWriter}
 use Rattle.demands.proofs.Accepts.{reads}
-use Rattle.demands.proofs.NestedLaws.{inner-reads, outer-reads, numbered}
-use Rattle.demands.proofs.Writes.{allowed-written, write-after-read, read-buffer-after, buffer-after-read, outer-writes}
-use Rattle.demands.proofs.Numbers.{every-reading-number, every-writing-number, zero-is-none}
+use Rattle.demands.proofs.ReadComplete.{objects-start}
+use Rattle.demands.proofs.NestedLaws.{inner-reads, outer-accepts, outer-allows, numbered}
+use Rattle.demands.proofs.Writes.{written-in, allowed-written, write-after-read, read-buffer-after, buffer-after-read}
+use Rattle.demands.proofs.ReadingSays.{reading-says, reading-some}
+use Rattle.demands.proofs.WritingSays.{writing-says, zero-is-none}
 
 -- ---- an accepting answer is that of a content
-refused-some : (x : Refusal) → among (x .number) readingNumbers ≡ true → x ≡ none → ⊥
-unfolding among
-refused-some x n e = true-false (rw e at n) refl
-
 accepting : (e : Edition) (s : List ℕ) → Accepts libraryReader e s → (c : Content) × (answer e s ≡ accepted c)
 unfolding answerOf
 accepting e s h = go (answer e s) refl h
   where
     go : (a : Answer) → answer e s ≡ a → answerOf a .refusal ≡ none → (c : Content) × (answer e s ≡ accepted c)
     go (accepted c) q z = (c, q)
-    go (refused x) q z = absurd (refused-some x (every-reading-number e s x q) z)
+    go (refused x) q z = absurd (reading-some e s x q (ap (λ (y : Refusal). y .number) z))
 
 accepted-reads : (e : Edition) (s : List ℕ) (c : Content) → answer e s ≡ accepted c → reading e s ≡ record { refusal = none; content = recordOf c }
 unfolding answerOf
@@ -57,18 +53,18 @@ accepted-content : (e : Edition) (s : List ℕ) (c : Content) → answer e s ≡
 accepted-content e s c a = ap (λ (r : Reading). r .content) (accepted-reads e s c a)
 
 -- ---- demand 1
-first : Demand1 libraryReader libraryWriter
-unfolding answerOf bufferAfter
-first = record {
-  read-number = λ e s. number e s (answer e s) refl;
+demand1 : Demand1 libraryReader libraryWriter
+unfolding answerOf bufferAfter contentOf
+demand1 = record {
+  read-says = λ e s n. says e s n (answer e s) refl;
   read-empty = λ e s. empty (answer e s);
-  write-number = λ e r b. every-writing-number e (contentOf r) (length b);
+  write-says = λ e r b n l h. writing-says e (contentOf r) (length b) n (length-map (r .objects) valueOf ∙ l .objects) (λ z. h (zero-is-none e (contentOf r) (length b) z));
   write-leaves = λ e r b h. leaves e r b (eqb (refusalOf e r b .number) 0) refl h;
 }
   where
-    number : (e : Edition) (s : List ℕ) (a : Answer) → answer e s ≡ a → Refuses libraryReader e s → among (answerOf a .refusal .number) readingNumbers ≡ true
-    number e s (accepted c) q h = absurd (h (accepted-accepts e s c q))
-    number e s (refused x) q h = every-reading-number e s x q
+    says : (e : Edition) (s : List ℕ) → LentEdition e → (a : Answer) → answer e s ≡ a → Refuses libraryReader e s → ReadingSays e (answerOf a .refusal)
+    says e s n (accepted c) q h = absurd (h (accepted-accepts e s c q))
+    says e s n (refused x) q h = reading-says e s x n q
 
     empty : (a : Answer) → (answerOf a .refusal ≡ none → ⊥) → answerOf a .content ≡ emptyRecord
     empty (accepted c) h = absurd (h refl)
@@ -80,12 +76,13 @@ first = record {
 
 -- ---- demand 2
 second : Demand2 libraryReader libraryWriter
+unfolding contentOf
 second = record {
   accepts = λ e s n. (meets e s n, met e s n);
   holds = λ e s n m. accepted-content e s (m .content) (reads e s (m .content) n .1 (m .allowed, m .drawn));
+  writes = λ e r b n l. (λ z. allowed e r b n l z, λ a. rw (a .1) (allowed-written e (contentOf r) (a .0)));
   back = back;
   forth = forth;
-  never-refused = λ e r b n a size. rw size (allowed-written e (contentOf r) a);
 }
   where
     meets : (e : Edition) (s : List ℕ) → LentEdition e → Accepts libraryReader e s → Meets e s
@@ -96,6 +93,11 @@ second = record {
 
     met : (e : Edition) (s : List ℕ) → LentEdition e → Meets e s → Accepts libraryReader e s
     met e s n m = accepted-accepts e s (m .content) (reads e s (m .content) n .1 (m .allowed, m .drawn))
+
+    allowed : (e : Edition) (r : Record) (b : List ℕ) → LentEdition e → LentRecord r → refusalOf e r b ≡ none → Allowed e (contentOf r) × (length b ≡ 256)
+    allowed e r b n l z =
+        let w = written-in e (contentOf r) (length b) (ap (λ (x : Refusal). x .number) z) (l .free) (length-map (r .objects) valueOf ∙ l .objects) n in
+        (w .1, w .0)
 
     back : (e : Edition) (s b : List ℕ) → LentEdition e → length b ≡ 256 → Accepts libraryReader e s
         → libraryWriter e (reading e s .content) b ≡ record { refusal = none; buffer = s }
@@ -113,41 +115,49 @@ second = record {
 
 -- ---- demand 3
 module _ (i o : Edition) (li : LentEdition i) (lo : LentEdition o) (n : Nested i o) where
-  -- what is said of an image that the outer accepts with the values vs
-  abbrev Inner : List ℕ → List (List ℕ) → Type 0
-  Inner s vs =
-      (AllMet (objectRows i) vs × (reading i s ≡ reading o s))
-      ⊎ ((x : Refusal) × FirstUnmet (objectRows i) (startOf s) vs x
-      × among (x .number) (6 ∷ 7 ∷ 9 ∷ 10 ∷ []) ≡ true × (reading i s ≡ record { refusal = x; content = emptyRecord }))
+  outer-reads : (s : List ℕ) (m : Meets o s) → answer o s ≡ accepted (m .content)
+  outer-reads s m = reads o s (m .content) lo .1 (m .allowed, m .drawn)
 
-  inner-content : (s : List ℕ) (c : Content) → answer o s ≡ accepted c → Inner s (c .values)
-  inner-content s c a = cases (inner-reads i o s c lo n a)
+  inner : (s : List ℕ) (m : Meets o s) → InnerReads i (m .content) (reading i s)
+  inner s m = cases (inner-reads i o s (m .content) lo n (outer-reads s m))
     where
+      c : Content
+      c = m .content
+
+      start : startOf s ≡ objectsAt c
+      start = objects-start o s c (m .allowed) (m .drawn)
+
       cases : (AllMet (objectRows i) (c .values) × (answer i s ≡ accepted c))
-          ⊎ ((x : Refusal) × FirstUnmet (objectRows i) (startOf s) (c .values) x × (answer i s ≡ refused x)) → Inner s (c .values)
-      cases (inl (m, q)) = inl (m, accepted-reads i s c q ∙ sym (accepted-reads o s c a))
-      cases (inr (x, f, q)) = inr (x, f, numbered f, refused-reads i s x q)
+          ⊎ ((x : Refusal) × FirstUnmet (objectRows i) (startOf s) (c .values) x × (answer i s ≡ refused x)) → InnerReads i c (reading i s)
+      cases (inl (all, q)) = rw (accepted-reads i s c q) (same all)
+      cases (inr (x, f, q)) = rw (refused-reads i s x q) (first x (rw start at f) (numbered f))
 
-  inner : (s : List ℕ) → Accepts libraryReader o s → Inner s (contentOf (reading o s .content) .values)
-  inner s h =
-      let a = accepting o s h in
-      let is : contentOf (reading o s .content) ≡ a .0 = ap contentOf (accepted-content o s (a .0) (a .1)) ∙ content-back (a .0) in
-      rw is (inner-content s (a .0) (a .1))
+  refuses : (s : List ℕ) → (Meets o s → ⊥) → Refuses libraryReader o s × Refuses libraryReader i s
+  refuses s h = (
+    λ a. let c = accepting o s a in h (met s (c .0) (c .1)),
+    λ a. let c = accepting i s a in h (met s (c .0) (outer-accepts i o s (c .0) lo n (c .1))),
+  )
+    where
+      met : (s : List ℕ) (c : Content) → answer o s ≡ accepted c → Meets o s
+      met s c a =
+          let m : Allowed o c × (layout c ≡ s) = reads o s c lo .0 a in
+          record { content = c; allowed = m .0; drawn = m .1 }
 
-  refuses : (s : List ℕ) → Refuses libraryReader o s → Refuses libraryReader i s
-  refuses s h a =
-      let c = accepting i s a in
-      h (accepted-accepts o s (c .0) (outer-reads i o s (c .0) lo n (c .1)))
+  written : (e : Edition) (r : Record) (b : List ℕ) → Allowed e (contentOf r) → length b ≡ 256 → libraryWriter e r b ≡ record { refusal = none; buffer = layout (contentOf r) }
+  unfolding bufferAfter
+  written e r b a size =
+      let w : refusalOf e r b ≡ none = rw size (allowed-written e (contentOf r) a) in
+      rw w
 
-  writes : (r : Record) (b : List ℕ) → LentRecord r → refusalOf i r b ≡ none → libraryWriter o r b ≡ libraryWriter i r b
-  unfolding bufferAfter contentOf
-  writes r b l z =
-      let w : refusalOf o r b ≡ none = outer-writes i o (contentOf r) (length b) lo (l .free) (length-map (r .objects) valueOf ∙ l .objects) n (ap (λ (x : Refusal). x .number) z) in
-      rw (w, z)
+  writes : (r : Record) (b : List ℕ) → LentRecord r → Allowed i (contentOf r) → length b ≡ 256
+      → (libraryWriter i r b ≡ record { refusal = none; buffer = layout (contentOf r) }) × (libraryWriter o r b ≡ libraryWriter i r b)
+  writes r b l a size =
+      let p = written i r b a size in
+      (p, written o r b (outer-allows i o (contentOf r) n a) size ∙ sym p)
 
   third : Demand3 libraryReader libraryWriter i o
-  third = record { refuses = refuses; reads = inner; writes = writes }
+  third = record { refuses = refuses; reads = λ s m. (accepted-reads o s (m .content) (outer-reads s m), inner s m); writes = writes }
 
 -- the library meets the three demands
 pub library : Demands libraryReader libraryWriter
-library = record { first = first; second = second; third = third }
+library = record { first = demand1; second = second; third = third }

@@ -15,13 +15,15 @@ use Rattle.card.specs.declared.Refusal.{Refusal}
 use Rattle.card.specs.Content.{Content}
 use Rattle.card.specs.Layout.{object, objectTags, layout}
 use Rattle.card.specs.Rules.{Entry, entries, objectRows, RowMet, AllMet, none-left, one-more, Fault, met, missing, length-out, byte-out, value-out, fault, Allowed}
-use Rattle.objects.specs.Walk.{Walked, stopped, push, walk}
-use Rattle.frame.specs.Frame.{startOf, templateOf}
-use Rattle.reader.specs.Reading.{accepted, refused, behind, answer}
-use Rattle.demands.specs.Nested.{Within, NestedRows, no-rows, one-row, Nested, refusalAt, FirstUnmet, here, later}
-use Rattle.demands.proofs.WalkLaws.{unlessMet, appraise, fault-met, met-fault}
-use Rattle.demands.proofs.Tables.{withEight, Table, table-of, walk-values}
-use Rattle.demands.proofs.Layouts.{met-length}
+use Rattle.card.specs.Walk.{Walked, stopped, faultAt, push, walk}
+use Rattle.card.specs.Frame.{startOf, objectsIn}
+use Rattle.card.specs.Reading.{accepted, refused, answer}
+use Rattle.card.proofs.Chains.{answer-by, stopped-first}
+use Rattle.rules.proofs.Lists.{true-false}
+use Rattle.demands.specs.Nested.{Within, NestedRows, no-rows, one-row, Nested, FirstUnmet, here, later}
+use Rattle.card.proofs.Walks.{unlessMet, appraise, fault-met, met-fault}
+use Rattle.card.proofs.Seventeen.{withEight, Table, table-of, walk-values}
+use Rattle.card.proofs.LastRow.{met-length}
 use Rattle.demands.proofs.ReadSound.{read-sound}
 use Rattle.demands.proofs.ReadComplete.{Reached, reached, read-complete}
 
@@ -38,10 +40,10 @@ unmet-one (later m f) (later k g) = unmet-one f g
 
 -- its refusal has the number 6, 7, 9 or 10
 pub numbered : {rs : List Entry} {at : ℕ} {vs : List (List ℕ)} {x : Refusal} → FirstUnmet rs at vs x → among (x .number) (6 ∷ 7 ∷ 9 ∷ 10 ∷ []) ≡ true
-unfolding refusalAt among
+unfolding faultAt among
 numbered (here {r} {v} {rs} {vs} {at} n) = go (fault (r .row) v) refl
   where
-    go : (f : Fault) → fault (r .row) v ≡ f → among ((refusalAt r at f) .number) (6 ∷ 7 ∷ 9 ∷ 10 ∷ []) ≡ true
+    go : (f : Fault) → fault (r .row) v ≡ f → among ((faultAt r at f) .number) (6 ∷ 7 ∷ 9 ∷ 10 ∷ []) ≡ true
     go met e = absurd (n (met-fault (r .row) v e))
     go missing e = refl
     go length-out e = refl
@@ -51,7 +53,7 @@ numbered (later m f) = numbered f
 
 -- ---- either all rows are met, or the walk stops at the first that is not
 row-settled : (r : Entry) (v : List ℕ) (at : ℕ) (f : Fault) (w : Walked) → fault (r .row) v ≡ f
-    → (RowMet (r .row) v × (unlessMet r at f w ≡ w)) ⊎ ((RowMet (r .row) v → ⊥) × (unlessMet r at f w ≡ stopped (refusalAt r at f)))
+    → (RowMet (r .row) v × (unlessMet r at f w ≡ w)) ⊎ ((RowMet (r .row) v → ⊥) × (unlessMet r at f w ≡ stopped (faultAt r at f)))
 unfolding unlessMet
 row-settled r v at met w e = inl (met-fault (r .row) v e, refl)
 row-settled r v at missing w e = inr (λ m. let z : _≡_ {A = ℕ} 0 1 = cc (fault-met (r .row) v m) in omega arith, refl)
@@ -77,9 +79,9 @@ settled (r ∷ rs) more (v ∷ vs) us at n = go (row-settled r v at (fault (r .r
     w = appraise (rs ++ more) next (vs ++ us)
 
     go : (RowMet (r .row) v × (unlessMet r at (fault (r .row) v) (push v w) ≡ push v w))
-        ⊎ ((RowMet (r .row) v → ⊥) × (unlessMet r at (fault (r .row) v) (push v w) ≡ stopped (refusalAt r at (fault (r .row) v))))
+        ⊎ ((RowMet (r .row) v → ⊥) × (unlessMet r at (fault (r .row) v) (push v w) ≡ stopped (faultAt r at (fault (r .row) v))))
         → Settled rs next vs w → Settled (r ∷ rs) at (v ∷ vs) (unlessMet r at (fault (r .row) v) (push v w))
-    go (inr (n, e)) t = inr (refusalAt r at (fault (r .row) v), here n, e)
+    go (inr (n, e)) t = inr (faultAt r at (fault (r .row) v), here n, e)
     go (inl (m, e)) (inl a) = inl (one-more m a)
     go (inl (m, e)) (inr (x, f, q)) = inr (x, later m f, e ∙ ap (push v) q)
 
@@ -125,8 +127,8 @@ pub outer-allows : (i o : Edition) (c : Content) → Nested i o → Allowed i c 
 outer-allows i o c n m = allowed-by i o c (n .outer) (rows-met objectTags (n .rows) (m .rows)) m
 
 -- what the inner accepts, the outer accepts with the same content
-pub outer-reads : (i o : Edition) (s : List ℕ) (c : Content) → length (o .rows) ≡ 17 → Nested i o → answer i s ≡ accepted c → answer o s ≡ accepted c
-outer-reads i o s c size n e =
+pub outer-accepts : (i o : Edition) (s : List ℕ) (c : Content) → length (o .rows) ≡ 17 → Nested i o → answer i s ≡ accepted c → answer o s ≡ accepted c
+outer-accepts i o s c size n e =
     let m : Allowed i c × (layout c ≡ s) = read-sound i s c (nested-count i o n ∙ size) e in
     read-complete o s c size (outer-allows i o c n (m .0)) (m .1)
 
@@ -134,7 +136,7 @@ outer-reads i o s c size n e =
 pub inner-reads : (i o : Edition) (s : List ℕ) (c : Content) → length (o .rows) ≡ 17 → Nested i o → answer o s ≡ accepted c
     → (AllMet (objectRows i) (c .values) × (answer i s ≡ accepted c))
     ⊎ ((x : Refusal) × FirstUnmet (objectRows i) (startOf s) (c .values) x × (answer i s ≡ refused x))
-unfolding behind
+unfolding among
 inner-reads i o s c size n e = with-reached (reached o s c (met-length (m .0 .rows) ∙ table-of o size (n .outer) .count) (m .0) (m .1))
   where
     m : Allowed o c × (layout c ≡ s)
@@ -152,9 +154,9 @@ inner-reads i o s c size n e = with-reached (reached o s c (met-length (m .0 .ro
     with-reached : Reached s c → Goal
     with-reached r = cases (settled (objectRows i) _ (c .values) ((r .k ∷ []) ∷ []) (startOf s) count)
       where
-        walked : walk (entries tags (i .rows)) (startOf s) (templateOf s) ≡ appraise (withEight (objectRows i)) (startOf s) (c .values ++ ((r .k ∷ []) ∷ []))
+        walked : walk (entries tags (i .rows)) (startOf s) (objectsIn s) ≡ appraise (withEight (objectRows i)) (startOf s) (c .values ++ ((r .k ∷ []) ∷ []))
         walked = ap (walk (entries tags (i .rows)) (startOf s)) (r .bytes) ∙ walk-values i (startOf s) (c .values ++ ((r .k ∷ []) ∷ [])) t
 
         cases : Settled (objectRows i) (startOf s) (c .values) (appraise (withEight (objectRows i)) (startOf s) (c .values ++ ((r .k ∷ []) ∷ []))) → Goal
         cases (inl a) = inl (a, read-complete i s c (nested-count i o n ∙ size) (allowed-by o i c (n .inner) a (m .0)) (m .1))
-        cases (inr (x, f, w)) = inr (x, f, r .answers i (n .inner) ∙ ap (behind s) (walked ∙ w))
+        cases (inr (x, f, w)) = inr (x, f, answer-by i s (stopped x) (r .answers i (n .inner)) (walked ∙ w) ∙ stopped-first s x _ (λ z. true-false (rw z at (numbered f)) refl))

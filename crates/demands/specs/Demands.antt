@@ -1,21 +1,22 @@
 -- The three demands, as predicates of any reader and any writer.
-use Prim.Native.Nat.{ℕ}
+use Prim.Native.Nat.{ℕ, _<_}
 use mathlib.Core.Path.{_≡_}
-use mathlib.Core.Logic.{_⊎_, _↔_}
+use mathlib.Core.Logic.{_↔_}
 use mathlib.Core.Bool.{true}
 use mathlib.Core.List.{List, [], _∷_}
-use lib.ListN.{length}
+use lib.ListN.{length, getD}
 use Rattle.edition.specs.declared.Edition.{Edition}
 use Rattle.rules.specs.Lists.{among}
+use Rattle.edition.specs.Rows.{tagOf, noRow}
 use Rattle.card.specs.declared.Record.{Record}
 use Rattle.card.specs.declared.Refusal.{Refusal}
-use Rattle.card.specs.Content.{contentOf, recordOf, emptyRecord}
-use Rattle.card.specs.Refusals.{none}
+use Rattle.card.specs.declared.Reading.{Reading}
+use Rattle.card.specs.Content.{Content, contentOf, recordOf, emptyRecord}
+use Rattle.card.specs.Refusals.{refuse, refuseLength, none}
+use Rattle.card.specs.Layout.{objectsAt, layout}
 use Rattle.card.specs.Rules.{objectRows, AllMet, Allowed, Meets}
-use Rattle.reader.specs.declared.Reading.{Reading}
-use Rattle.frame.specs.Frame.{startOf}
-use Rattle.reader.specs.Reading.{reading}
-use Rattle.writer.specs.Writing.{refusalOf, bufferAfter}
+use Rattle.card.specs.Reading.{reading}
+use Rattle.card.specs.Writing.{refusalOf, bufferAfter}
 use Rattle.demands.specs.Nested.{Nested, FirstUnmet}
 
 abbrev pub Reader : Type 0
@@ -42,43 +43,60 @@ Accepts read e s = read e s .refusal ≡ none
 abbrev pub Refuses : Reader → Edition → List ℕ → Type 0
 Refuses read e s = Accepts read e s → ⊥
 
--- the numbers of the document's two lists; a writing that is not refused answers 0
-abbrev pub readingNumbers : List ℕ
-readingNumbers = 1 ∷ 2 ∷ 3 ∷ 4 ∷ 5 ∷ 6 ∷ 7 ∷ 8 ∷ 9 ∷ 10 ∷ 11 ∷ 12 ∷ 13 ∷ 14 ∷ []
+-- the permitted lengths of row k
+abbrev pub lengthsOf : Edition → ℕ → ℕ
+lengthsOf e k = getD (e .rows) k noRow .lengths
 
-abbrev pub writingNumbers : List ℕ
-writingNumbers = 0 ∷ 2 ∷ 3 ∷ 4 ∷ 6 ∷ 7 ∷ 9 ∷ 10 ∷ 11 ∷ 20 ∷ []
+-- what a reading may be refused with: the place is an address; the tag is that of a row with 2, 6, 7, 8, 9, 10 and 11, else 0; with 7 come the ends of that row's set, else 0
+pub data ReadingSays (e : Edition) : Refusal → Type 0 where
+  no-row : (number place : ℕ) → among number (1 ∷ 3 ∷ 4 ∷ 5 ∷ 12 ∷ 13 ∷ 14 ∷ []) ≡ true → place < 256 → ReadingSays e (refuse number place 0)
+  of-row : (number place k : ℕ) → among number (2 ∷ 6 ∷ 8 ∷ 9 ∷ 10 ∷ 11 ∷ []) ≡ true → place < 256 → k < 17 → ReadingSays e (refuse number place (tagOf k))
+  of-length : (place k : ℕ) → place < 256 → k < 17 → ReadingSays e (refuseLength place (tagOf k) (lengthsOf e k))
 
--- 1: whatever is lent, the answer has one of the listed numbers; a refused reading hands out the empty record, a refused writing leaves the buffer
+-- what a writing may be refused with: the place is 0, but with 9 an index within the value of the row's object
+pub data WritingSays (e : Edition) (c : Content) : Refusal → Type 0 where
+  no-row : (number : ℕ) → among number (3 ∷ 4 ∷ 20 ∷ []) ≡ true → WritingSays e c (refuse number 0 0)
+  of-row : (number k : ℕ) → among number (2 ∷ 6 ∷ 10 ∷ 11 ∷ []) ≡ true → k < 17 → WritingSays e c (refuse number 0 (tagOf k))
+  of-length : (k : ℕ) → k < 16 → WritingSays e c (refuseLength 0 (tagOf k) (lengthsOf e k))
+  of-byte : (i k : ℕ) → k < 16 → i < length (getD (c .values) k []) → WritingSays e c (refuse 9 i (tagOf k))
+
+-- 1: whatever is lent, a refusal says one of these; a refused reading hands out the empty record, a refused writing leaves the buffer
 pub record Demand1 (read : Reader) (write : Writer) : Type 0 where
-  pub read-number : (e : Edition) (s : List ℕ) → Refuses read e s → among (read e s .refusal .number) readingNumbers ≡ true
+  pub read-says : (e : Edition) (s : List ℕ) → LentEdition e → Refuses read e s → ReadingSays e (read e s .refusal)
   pub read-empty : (e : Edition) (s : List ℕ) → Refuses read e s → read e s .content ≡ emptyRecord
-  pub write-number : (e : Edition) (r : Record) (b : List ℕ) → among (write e r b .refusal .number) writingNumbers ≡ true
+  pub write-says : (e : Edition) (r : Record) (b : List ℕ) → LentEdition e → LentRecord r → (write e r b .refusal ≡ none → ⊥) → WritingSays e (contentOf r) (write e r b .refusal)
   pub write-leaves : (e : Edition) (r : Record) (b : List ℕ) → (write e r b .refusal ≡ none → ⊥) → write e r b .buffer ≡ b
 
--- 2: accepted exactly where every rule is met; the record then holds what stands on the card; the two round trips
+-- 2: accepted exactly where every rule is met; the record then holds what stands on the card; written exactly where the edition allows it; the two round trips
 pub record Demand2 (read : Reader) (write : Writer) : Type 0 where
   pub accepts : (e : Edition) (s : List ℕ) → LentEdition e → Accepts read e s ↔ Meets e s
   pub holds : (e : Edition) (s : List ℕ) → LentEdition e → (m : Meets e s) → read e s .content ≡ recordOf (m .content)
+  pub writes : (e : Edition) (r : Record) (b : List ℕ) → LentEdition e → LentRecord r → (write e r b .refusal ≡ none) ↔ (Allowed e (contentOf r) × (length b ≡ 256))
   pub back : (e : Edition) (s b : List ℕ) → LentEdition e → length b ≡ 256 → Accepts read e s
       → write e (read e s .content) b ≡ record { refusal = none; buffer = s }
   pub forth : (e : Edition) (r : Record) (b : List ℕ) → LentEdition e → LentRecord r → write e r b .refusal ≡ none
       → Accepts read e (write e r b .buffer) × (contentOf (read e (write e r b .buffer) .content) ≡ contentOf r)
-  pub never-refused : (e : Edition) (r : Record) (b : List ℕ) → LentEdition e → Allowed e (contentOf r) → length b ≡ 256 → write e r b .refusal ≡ none
 
--- 3: for any two editions, the inner nested in the outer
+-- what the inner reads of a card that meets every rule of the outer with this content: the same record, or the refusal of its first row that is not met
+pub data InnerReads (inner : Edition) (c : Content) : Reading → Type 0 where
+  same : AllMet (objectRows inner) (c .values) → InnerReads inner c (record { refusal = none; content = recordOf c })
+  first : (x : Refusal) → FirstUnmet (objectRows inner) (objectsAt c) (c .values) x → among (x .number) (6 ∷ 7 ∷ 9 ∷ 10 ∷ []) ≡ true
+      → InnerReads inner c (record { refusal = x; content = emptyRecord })
+
+-- 3: for any two editions, the inner nested in the outer. It speaks of what meets the outer's rules and of what the inner allows, and not of what the reader and the writer say of themselves
 pub record Demand3 (read : Reader) (write : Writer) (inner outer : Edition) : Type 0 where
-  pub refuses : (s : List ℕ) → Refuses read outer s → Refuses read inner s
-  pub reads : (s : List ℕ) → Accepts read outer s
-      → (AllMet (objectRows inner) (contentOf (read outer s .content) .values) × (read inner s ≡ read outer s))
-      ⊎ ((x : Refusal) × FirstUnmet (objectRows inner) (startOf s) (contentOf (read outer s .content) .values) x
-      × among (x .number) (6 ∷ 7 ∷ 9 ∷ 10 ∷ []) ≡ true × (read inner s ≡ record { refusal = x; content = emptyRecord }))
-  pub writes : (r : Record) (b : List ℕ) → LentRecord r → write inner r b .refusal ≡ none → write outer r b ≡ write inner r b
+  pub refuses : (s : List ℕ) → (Meets outer s → ⊥) → Refuses read outer s × Refuses read inner s
+  pub reads : (s : List ℕ) (m : Meets outer s) → (read outer s ≡ record { refusal = none; content = recordOf (m .content) }) × InnerReads inner (m .content) (read inner s)
+  pub writes : (r : Record) (b : List ℕ) → LentRecord r → Allowed inner (contentOf r) → length b ≡ 256
+      → (write inner r b ≡ record { refusal = none; buffer = layout (contentOf r) }) × (write outer r b ≡ write inner r b)
+
+abbrev pub Third : Reader → Writer → Type 0
+Third read write = (inner outer : Edition) → LentEdition inner → LentEdition outer → Nested inner outer → Demand3 read write inner outer
 
 pub record Demands (read : Reader) (write : Writer) : Type 0 where
   pub first : Demand1 read write
   pub second : Demand2 read write
-  pub third : (inner outer : Edition) → LentEdition inner → LentEdition outer → Nested inner outer → Demand3 read write inner outer
+  pub third : Third read write
 
 -- the library's reader and writer: what the contracts of `read` and `write` say, and nothing else
 abbrev pub libraryReader : Reader

@@ -12,9 +12,9 @@ use Rattle.edition.specs.Sets.{permitted}
 use Rattle.rules.specs.Values.{judged}
 use Rattle.edition.specs.Rows.{formedFrom}
 use Rattle.card.specs.declared.Refusal.{Refusal}
-use Rattle.card.specs.Refusals.{refuse, refuseLength, none}
 use Rattle.card.specs.Layout.{object}
-use Rattle.card.specs.Rules.{Entry, RowMet, Fault, met, missing, length-out, byte-out, value-out, fault}
+use Rattle.card.specs.Rules.{Entry, RowMet, fault}
+use Rattle.card.specs.Walk.{faultAt}
 
 -- each inner length is an outer one; whatever value of an inner length the inner rule takes, the outer takes; what the outer requires the inner requires
 pub record Within (inner outer : Row) : Type 0 where
@@ -32,17 +32,9 @@ pub record Nested (i o : Edition) : Type 0 where
   pub outer : formedFrom 0 (o .rows) ≡ Well
   pub rows : NestedRows (i .rows) (o .rows)
 
--- what a row's fault is refused with in a reading; at `at` stands the object's tag or, where the object is missing, the next tag or the template's end
-unfoldable pub refusalAt : Entry → ℕ → Fault → Refusal
-refusalAt r at met = none
-refusalAt r at missing = refuse 6 at (r .tag)
-refusalAt r at length-out = refuseLength (at + 1) (r .tag) (r .row .lengths)
-refusalAt r at (byte-out i) = refuse 9 (at + 2 + i) (r .tag)
-refusalAt r at value-out = refuse 10 (at + 2) (r .tag)
-
 -- x is what the first row in card order that is not met is refused with, where the objects of the values stand from `at` on
 pub data FirstUnmet : List Entry → ℕ → List (List ℕ) → Refusal → Type 0 where
   here : {r : Entry} {v : List ℕ} {rs : List Entry} {vs : List (List ℕ)} {at : ℕ}
-      → (RowMet (r .row) v → ⊥) → FirstUnmet (r ∷ rs) at (v ∷ vs) (refusalAt r at (fault (r .row) v))
+      → (RowMet (r .row) v → ⊥) → FirstUnmet (r ∷ rs) at (v ∷ vs) (faultAt r at (fault (r .row) v))
   later : {r : Entry} {v : List ℕ} {rs : List Entry} {vs : List (List ℕ)} {at : ℕ} {x : Refusal}
       → RowMet (r .row) v → FirstUnmet rs (at + length (object (r .tag) v)) vs x → FirstUnmet (r ∷ rs) at (v ∷ vs) x

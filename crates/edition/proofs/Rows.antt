@@ -50,6 +50,16 @@ module _ (rs : List Row) (i : ℕ) where
   unfolding formedFrom
   formed-end h = rw (h, drop-length)
 
+-- the first bad row is one of the rows
+pub bad-below : (k : ℕ) (rs : List Row) (j : ℕ) → formedFrom k rs ≡ Bad j → j < k + length rs
+unfolding formedFrom
+bad-below k [] j e = absurd (let z : _≡_ {A = ℕ} 0 1 = cc in omega arith)
+bad-below k (r ∷ rs) j e = go (bad-below (suc k) rs j) (rowFormed (eqb k 16) r) e
+  where
+    go : (formedFrom (suc k) rs ≡ Bad j → j < suc k + length rs) → (q : Bool) → cond q (formedFrom (suc k) rs) (Bad k) ≡ Bad j → j < k + suc (length rs)
+    go ih true h = omega (arith, ih h)
+    go ih false h = let same : k ≡ j = cc in omega arith
+
 -- ---- the rows of a well-formed table
 formed-in : (q : Bool) (f : Formed) (k : ℕ) → cond q f (Bad k) ≡ Well → (q ≡ true) × (f ≡ Well)
 formed-in true f k e = (refl, e)
@@ -96,10 +106,6 @@ permits-most lengths n small p = go (leb n 28) refl
     go : (q : Bool) → leb n 28 ≡ q → n ≤ 28
     go true e = leb-true n 28 e
     go false e = absurd (true-false p (beyond lengths n (lt-of-lt-of-le small (pow-mono (leb-false n 28 e)))))
-
-pub permits-not-0 : (lengths : ℕ) → Within28 lengths → permitted lengths 0 ≡ false
-unfolding permitted
-permits-not-0 lengths w = ne-eqb (lengths / 1 % 2) 1 (omega (arith, w .even))
 
 -- the last row is required, raw, and has the set {1}
 last-by : (rule : Rule) (birth expiry raw : Bool) → byRule rule false (false && birth) (false && expiry) raw ≡ true → (rule ≡ Raw) × (raw ≡ true)

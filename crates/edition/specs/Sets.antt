@@ -1,12 +1,12 @@
 -- The permitted lengths: a set kept in the bits of one number.
 use Prim.Native.Nat.{ℕ, suc, _-_, _/_, _%_, _^_}
-use mathlib.Core.Bool.{Bool}
+use mathlib.Core.Bool.{Bool, _&&_}
 use lib.Count.{trailingZeros, leadingZeros}
-use lib.Dec.{eqb}
+use lib.Dec.{eqb, ltb}
 
--- the length n is in the set
+-- the length n is in the set; 0 is no length
 unfoldable pub permitted : ℕ → ℕ → Bool
-permitted set n = eqb (set / 2 ^ n % 2) 1
+permitted set n = ltb 0 n && eqb (set / 2 ^ n % 2) 1
 
 -- the ends of the set: trailing zeros give the shortest, leading zeros the longest
 unfoldable pub shortestOf : ℕ → ℕ

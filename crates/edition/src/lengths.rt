@@ -2,10 +2,13 @@
 ghost use mathlib.Core.Path.{_≡_};
 ghost use Rattle.edition.specs.Sets.{permitted, shortestOf, longestOf};
 
-// Whether the length n is in the set.
+// Whether the length n is in the set; 0 is no length.
 pub fn permits(lengths: u32, n: u8) -> bool
     ensures { λ r. ⌜ r ≡ permitted lengths n ⌝ }
 {
+    if n == 0 {
+        return false;
+    }
     if n >= 32 {
         return false;
     }

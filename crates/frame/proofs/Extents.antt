@@ -1,20 +1,22 @@
 -- Where a right length field puts the template, and what is refused only where it is wrong. Assumes nothing.
 use Prim.Native.Nat.{ℕ, suc, _+_, _-_, _≤_}
 use native.Mathlib.Omega.{arith}
-use borrow.Author.Tests.{eqb-true, leb-true}
-use mathlib.Core.Path.{_≡_, refl, ap}
+use borrow.Author.Tests.{eqb-true, eqb-false, leb-true}
+use mathlib.Core.Path.{_≡_, refl, sym, ap, _∙_}
 use mathlib.Core.Bool.{Bool, true, false, cond, _&&_}
 use mathlib.Core.List.{List, [], _∷_}
 use lib.Dec.{eqb, leb}
-use lib.ListN.{length, getD, take, drop}
+use lib.ListN.{length, take, drop}
 use Rattle.rules.proofs.Lists.{and-left, and-right}
 use Rattle.card.specs.declared.fields.LengthField.{LengthField}
 use Rattle.card.specs.declared.fields.LengthField.the-variants.{One, Other}
-use Rattle.card.specs.Refusals.{refuse, none, gate}
+use Rattle.card.specs.declared.Refusal.{Refusal}
 use Rattle.card.specs.Fields.{lengthAt, secondByte, told}
-use Rattle.card.specs.Rules.{firstAllowed}
-use Rattle.frame.specs.Frame.{headEnd, fieldWrong, fieldOf, startOf, endOf, templateOf}
-use Rattle.frame.specs.Checks.{frontRefusal, backRefusal, tailRefusal, Framed}
+use Rattle.card.specs.Reading.{frontRefusal}
+use Rattle.card.proofs.Chains.{neither, gate-in}
+use Rattle.card.specs.Frame.{fieldWrong, fieldOf, startOf, endOf, objectsIn}
+use Rattle.frame.specs.declared.Front.{Front}
+use Rattle.frame.specs.Checks.{openRefusal, frontOf, Framed}
 
 record Extent (f : LengthField) : Type 0 where
   used : told f .used ≤ 2
@@ -50,31 +52,61 @@ module _ (s : List ℕ) (long : length s ≡ 256) (right : fieldWrong (fieldOf s
       let x = extent (drop 31 s) right in
       record { long = long; is = refl; least = omega (arith, x .least); most = omega (arith, x .used, x .most) }
 
+  -- where the objects start, and how many bytes they have
+  pub start-most : startOf s ≤ 33
+  unfolding startOf
+  start-most = omega (arith, extent (drop 31 s) right .used)
+
+  pub size-most : told (fieldOf s) .length ≤ 212
+  size-most = extent (drop 31 s) right .most
+
   pub ordered : startOf s ≤ endOf s
   unfolding endOf
   ordered = omega arith
 
-  pub template-is : templateOf s ≡ take (endOf s - startOf s) (drop (startOf s) s)
+  pub template-is : objectsIn s ≡ take (endOf s - startOf s) (drop (startOf s) s)
   unfolding endOf
   template-is =
       let same : told (fieldOf s) .length ≡ startOf s + told (fieldOf s) .length - startOf s = omega arith in
       ap (λ (n : ℕ). take n (drop (startOf s) s)) same
 
-  -- nothing but 13 and 14 is left to refuse
-  pub back-is : backRefusal s ≡ tailRefusal s
-  unfolding backRefusal gate
-  back-is = rw (long, right)
-
 -- the length field is right where nothing is refused before the objects
-pub front-right : (s : List ℕ) (wrong : ℕ) → frontRefusal s wrong .number ≡ 0 → wrong ≡ 0
-unfolding frontRefusal gate
-front-right s wrong z = go (eqb (length s) 256) (firstAllowed (getD s 0 0)) (eqb (headEnd s) 30) (eqb (getD s 30 0) 0x60) (eqb wrong 0) refl z
+pub open-right : (edition : Refusal) (s : List ℕ) → openRefusal edition s .number ≡ 0 → (length s ≡ 256) × (fieldWrong (fieldOf s) ≡ 0)
+unfolding openRefusal frontRefusal
+open-right edition s z =
+    let n1 = neither _ _ z in
+    let n2 = neither _ _ (n1 .second) in
+    let g = gate-in _ _ _ (omega arith) (n1 .first) in
+    let g1 = gate-in _ _ _ (omega arith) (n2 .second) in
+    let g2 = gate-in _ _ _ (omega arith) (g1 .1) in
+    let g3 = gate-in _ _ _ (omega arith) (g2 .1) in
+    let g4 = gate-in _ _ _ (omega arith) (g3 .1) in
+    (eqb-true _ _ (g .0), eqb-true _ _ (g4 .0))
+
+-- ---- what a front says
+pub front-refused : (x : Refusal) (s : List ℕ) (f : Front) → f ≡ frontOf x s → (f .refusal .number ≡ 0 → ⊥) → f .refusal ≡ openRefusal x s
+unfolding frontOf
+front-refused x s f e h = go (eqb (openRefusal x s .number) 0) refl
   where
-    go : (n a b c d : Bool) → eqb wrong 0 ≡ d
-        → gate n (refuse 1 0 0) (gate a (refuse 3 0 0) (gate b (refuse 3 (headEnd s) 0) (gate c (refuse 4 30 0) (gate d (refuse 4 wrong 0) none)))) .number ≡ 0 → wrong ≡ 0
-    go false a b c d e z = absurd (omega arith)
-    go true false b c d e z = absurd (omega arith)
-    go true true false c d e z = absurd (omega arith)
-    go true true true false d e z = absurd (omega arith)
-    go true true true true false e z = absurd (omega arith)
-    go true true true true true e z = eqb-true wrong 0 e
+    go : (q : Bool) → eqb (openRefusal x s .number) 0 ≡ q → f .refusal ≡ openRefusal x s
+    go true t = absurd (h (ap (λ (y : Front). y .refusal .number) (rw t at e)))
+    go false t = ap (λ (y : Front). y .refusal) (rw t at e)
+
+pub record Opened (x : Refusal) (s : List ℕ) (f : Front) : Type 0 where
+  pub passed : openRefusal x s .number ≡ 0
+  pub start : f .start ≡ startOf s
+  pub end : f .end ≡ endOf s
+
+pub front-opened : (x : Refusal) (s : List ℕ) (f : Front) → f ≡ frontOf x s → f .refusal .number ≡ 0 → Opened x s f
+unfolding frontOf
+front-opened x s f e h = go (eqb (openRefusal x s .number) 0) refl
+  where
+    go : (q : Bool) → eqb (openRefusal x s .number) 0 ≡ q → Opened x s f
+    go true t =
+        let is = rw t at e in
+        record { passed = eqb-true _ _ t; start = ap (λ (y : Front). y .start) is; end = ap (λ (y : Front). y .end) is }
+    go false t = absurd (eqb-false _ _ t (sym (ap (λ (y : Front). y .refusal .number) (rw t at e)) ∙ h))
+
+pub open-formed : (x : Refusal) (s : List ℕ) → openRefusal x s .number ≡ 0 → x .number ≡ 0
+unfolding openRefusal
+open-formed x s z = neither x _ (neither _ _ z .second) .first

@@ -8,7 +8,7 @@ use lib.ListN.{length, getD, take, drop, length-take, length-drop, length-append
 use lib.Seq.{drop-cons, take-at, drop-at}
 use Rattle.rules.specs.Lists.{agree}
 use Rattle.card.specs.Layout.{identifier, head}
-use Rattle.frame.specs.Frame.{freeOf, headEnd}
+use Rattle.card.specs.Frame.{freeOf, headEnd}
 use Rattle.frame.proofs.Runs.{agree-cut, agree-own, run-passes}
 
 -- the fixed bytes, and what follows each part of them

@@ -14,16 +14,6 @@ use lib.Seq.{drop-drop, take-all}
 use Rattle.rules.specs.Lists.{agree}
 use Rattle.rules.proofs.Lists.{agree-pass, agree-stop, agree-end, agree-same}
 
-pub agree-within : (xs zs : List ℕ) → agree xs zs ≤ length zs
-unfolding agree
-agree-within [] zs = omega arith
-agree-within (x ∷ xs) [] = omega arith
-agree-within (x ∷ xs) (z ∷ zs) = go (eqb x z) (agree-within xs zs)
-  where
-    go : (q : Bool) → agree xs zs ≤ length zs → cond q (suc (agree xs zs)) 0 ≤ suc (length zs)
-    go true h = omega arith
-    go false h = omega arith
-
 -- what lies behind the length of the first list is not looked at
 pub agree-cut : (n : ℕ) (xs zs : List ℕ) → length xs ≤ n → agree xs (take n zs) ≡ agree xs zs
 unfolding agree

@@ -7,12 +7,14 @@ use mathlib.Core.List.{List, _∷_, _++_}
 use lib.ListN.{length, getD, take, drop, replicate, length-take, length-drop, length-replicate}
 use lib.Seq.{getD-drop}
 use Rattle.rules.specs.Lists.{agree}
+use Rattle.rules.proofs.Lists.{agree-within}
 use Rattle.card.specs.Fields.{lengthField}
 use Rattle.card.specs.Layout.{spaces, lasts, filler}
 use Rattle.card.proofs.Room.{room}
 use Rattle.frame.proofs.Runs.{agree-short, agree-over, agree-none, agree-all, part-stops, part-passes, part-to-end}
-use Rattle.frame.specs.Frame.{tailEnd}
-use Rattle.frame.specs.Checks.{Framed}
+use Rattle.card.specs.Frame.{endOf, tailEnd}
+use borrow.Author.Tests.{le-leb}
+use Rattle.frame.specs.Checks.{sameTail, sameIn, Framed}
 
 -- a part behind a template, its n spaces beginning at `start`
 pub record Placed (p : List ℕ) (n start : ℕ) : Type 0 where
@@ -48,19 +50,16 @@ lastOf p = getD p (length p - 1) 0
 abbrev endsOf : List ℕ → List ℕ
 endsOf p = replicate (lasts (length p - 1)) (lastOf p)
 
-abbrev pub tail : List ℕ → ℕ
-tail p = agree (filler (length p - 1) (lastOf p)) p
-
 module _ (p : List ℕ) (n start : ℕ) (w : Placed p n start) {m : ℕ} (led : m ≡ agree (0xC0 ∷ lengthField n) p) where
   filler-is : filler (length p - 1) (lastOf p) ≡ (0xC0 ∷ lengthField n) ++ (replicate n 0x20 ++ endsOf p)
   unfolding filler
   filler-is = rw (w .n-is)
 
-  pub lead-stops : m < start → m ≡ tail p
+  pub lead-stops : m < start → m ≡ sameTail p
   lead-stops h = rw (filler-is) (led ∙ sym (agree-short (0xC0 ∷ lengthField n) (replicate n 0x20 ++ endsOf p) p (omega (arith, w .start-is))))
 
   module _ (passed : start ≤ m) where
-    at-spaces : tail p ≡ start + agree (replicate n 0x20 ++ endsOf p) (drop start p)
+    at-spaces : sameTail p ≡ start + agree (replicate n 0x20 ++ endsOf p) (drop start p)
     at-spaces =
         let same : start ≡ length (0xC0 ∷ lengthField n) = omega (arith, w .start-is) in
         rw (filler-is, same) (agree-over (0xC0 ∷ lengthField n) (replicate n 0x20 ++ endsOf p) p (omega arith))
@@ -72,24 +71,24 @@ module _ (p : List ℕ) (n start : ℕ) (w : Placed p n start) {m : ℕ} (led : 
           let long : length (take (start + n - start) (drop start p)) ≡ n = simp (length-take, length-drop) (omega arith) in
           rw long at ran
 
-      pub spaces-stop : r < n → start + r ≡ tail p
+      pub spaces-stop : r < n → start + r ≡ sameTail p
       spaces-stop h =
           let l = length-replicate {A = ℕ} n 0x20 in
           part-stops p start (start + n - start) (replicate n 0x20) (endsOf p) counted (omega arith) (omega arith) ∙ sym at-spaces
 
-      at-ends : n ≤ r → tail p ≡ start + n + agree (endsOf p) (drop (start + n) p)
+      at-ends : n ≤ r → sameTail p ≡ start + n + agree (endsOf p) (drop (start + n) p)
       at-ends h =
           let l = length-replicate {A = ℕ} n 0x20 in
           at-spaces ∙ rw l at (part-passes p start (start + n - start) (replicate n 0x20) (endsOf p) counted (omega arith) (omega arith))
 
-      pub ends-differ : n ≤ r → (getD p (start + n) 0 ≡ lastOf p → ⊥) → start + n ≡ tail p
+      pub ends-differ : n ≤ r → (getD p (start + n) 0 ≡ lastOf p → ⊥) → start + n ≡ sameTail p
       ends-differ h d =
           let z = sizes p n start w in
           let here = getD-drop (start + n) p 0 0 ∙ ap (λ (x : ℕ). getD p x 0) (add-zero (start + n)) in
           let none = agree-none (lasts (length p - 1)) (lastOf p) (drop (start + n) p) (λ e. d (sym here ∙ e)) in
           omega (arith, at-ends h)
 
-      pub ends-same : n ≤ r → getD p (start + n) 0 ≡ lastOf p → length p ≡ tail p
+      pub ends-same : n ≤ r → getD p (start + n) 0 ≡ lastOf p → length p ≡ sameTail p
       ends-same h e =
           let z = sizes p n start w in
           let all = agree-all (lasts (length p - 1)) (lastOf p) (drop (start + n) p) (simp length-drop (omega (arith, z .ends))) (λ i l. getD-drop (start + n) p i 0 ∙ each z i l) in
@@ -99,13 +98,24 @@ module _ (p : List ℕ) (n start : ℕ) (w : Placed p n start) {m : ℕ} (led : 
           each z zero l = ap (λ (x : ℕ). getD p x 0) (add-zero (start + n)) ∙ e
           each z (suc i) l = ap (λ (x : ℕ). getD p x 0) (omega (arith, z .ends, z .two))
 
--- the part behind the template, as the answer has it
-pub tail-found : (s : List ℕ) (end n : ℕ) → Framed s end → n ≡ tail (take (length s - end) (drop end s)) → end + n ≡ tailEnd s
-unfolding tailEnd
-tail-found s end n w e =
-    let long = w .long in
-    let most = w .most in
+-- ---- the part behind a template that ends at `end`
+tail-found : (s : List ℕ) (end : ℕ) → length s ≡ 256 → end ≤ 253 → end + sameTail (drop end s) ≡ end + agree (filler (255 - end) (getD s 255 0)) (drop end s)
+tail-found s end long most =
     let size : length (drop end s) - 1 ≡ 255 - end = rw (length-drop, long) (omega arith) in
     let place : end + (255 - end) ≡ 255 = omega arith in
     let last : getD (drop end s) (255 - end) 0 ≡ getD s 255 0 = getD-drop end s (255 - end) 0 ∙ ap (λ (x : ℕ). getD s x 0) place in
-    ap (λ (x : ℕ). end + x) (rw (part-to-end end s, size, last) at e) ∙ rw (w .is)
+    rw (size, last)
+
+-- as the answer has it
+pub tail-counted : (s : List ℕ) → Framed s (endOf s) → (n : ℕ) → n ≡ sameIn (take (length s - endOf s) (drop (endOf s) s)) → endOf s + n ≡ tailEnd s
+unfolding tailEnd sameIn
+tail-counted s f n e =
+    let l = length-drop (endOf s) s in
+    let lo : 3 ≤ length (drop (endOf s) s) = omega (arith, f .long, f .most) in
+    let hi : length (drop (endOf s) s) ≤ 256 = omega (arith, f .long) in
+    let is : n ≡ sameTail (drop (endOf s) s) = rw (part-to-end (endOf s) s, le-leb 3 _ lo, le-leb _ 256 hi) at e in
+    rw is (tail-found s (endOf s) (f .long) (f .most))
+
+pub tail-most : (s : List ℕ) → Framed s (endOf s) → tailEnd s ≤ 256
+unfolding tailEnd
+tail-most s f = omega (arith, agree-within (filler (255 - endOf s) (getD s 255 0)) (drop (endOf s) s), length-drop (endOf s) s, f .long, f .most)

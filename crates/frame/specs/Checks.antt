@@ -1,48 +1,42 @@
--- What is refused before the objects and behind them.
+-- What is refused before the objects, where they stand, and how far the bytes behind them are right.
 use Prim.Native.Nat.{ℕ, _+_, _-_, _≤_}
 use mathlib.Core.Path.{_≡_}
+use mathlib.Core.Bool.{cond, _&&_}
 use mathlib.Core.List.{List}
-use lib.Dec.{eqb}
-use lib.ListN.{length, take, drop, getD}
+use lib.Dec.{eqb, leb}
+use lib.ListN.{length, getD}
+use Rattle.rules.specs.Lists.{agree}
 use Rattle.card.specs.declared.Refusal.{Refusal}
 use Rattle.card.specs.declared.fields.LengthField.{LengthField}
-use Rattle.card.specs.Refusals.{refuse, none, gate}
+use Rattle.card.specs.Refusals.{none, orElse, sizeRefusal}
 use Rattle.card.specs.Fields.{told}
-use Rattle.card.specs.Layout.{xorAll}
-use Rattle.card.specs.Rules.{firstAllowed, lastAllowed}
+use Rattle.card.specs.Layout.{filler}
+use Rattle.card.specs.Frame.{fieldWrong, startOf, endOf}
+use Rattle.card.specs.Reading.{frontRefusal}
 use Rattle.frame.specs.declared.Front.{Front}
 use Rattle.frame.specs.declared.field.Span.{Span}
-use Rattle.frame.specs.Frame.{headEnd, fieldWrong, fieldOf, startOf, endOf, tailEnd}
 
 -- where a length field is wrong, where the objects start, and the address behind the template
 unfoldable pub spanOf : LengthField → Span
 spanOf f = record { wrong = fieldWrong f; start = 31 + told f .used; end = 31 + told f .used + told f .length }
 
--- 1, 3 and 4, where the length field is wrong at `wrong`, or 0
-unfoldable pub frontRefusal : List ℕ → ℕ → Refusal
-frontRefusal s wrong =
-    gate (eqb (length s) 256) (refuse 1 0 0)
-    (gate (firstAllowed (getD s 0 0)) (refuse 3 0 0)
-    (gate (eqb (headEnd s) 30) (refuse 3 (headEnd s) 0)
-    (gate (eqb (getD s 30 0) 0x60) (refuse 4 30 0)
-    (gate (eqb wrong 0) (refuse 4 wrong 0) none))))
+-- 1, the refusal of the edition, 3 and 4
+unfoldable pub openRefusal : Refusal → List ℕ → Refusal
+openRefusal edition s = orElse (sizeRefusal 1 (length s)) (orElse edition (frontRefusal s))
 
-unfoldable pub frontOf : List ℕ → Front
-frontOf s = record { refusal = frontRefusal s (fieldWrong (fieldOf s)); start = startOf s; end = endOf s }
+-- where nothing is refused before the objects: where they start and end
+unfoldable pub frontOf : Refusal → List ℕ → Front
+frontOf edition s =
+    cond (eqb (openRefusal edition s .number) 0)
+    (record { refusal = none; start = startOf s; end = endOf s })
+    (record { refusal = openRefusal edition s; start = 0; end = 0 })
 
--- 13 and 14
-unfoldable pub tailRefusal : List ℕ → Refusal
-tailRefusal s =
-    gate (eqb (getD s (endOf s - 1) 0) (xorAll (take (endOf s - 31) (drop 30 s)))) (refuse 13 (endOf s - 1) 0)
-    (gate (eqb (tailEnd s) 256) (refuse 14 (tailEnd s) 0)
-    (gate (lastAllowed (getD s 0 0) (getD s 255 0)) (refuse 14 255 0) none))
+-- how many bytes of a part that begins behind a template and ends with the image are as they must be; 0 for one that no card has
+abbrev pub sameTail : List ℕ → ℕ
+sameTail p = agree (filler (length p - 1) (getD p (length p - 1) 0)) p
 
--- and before them 1 and 4, where nothing tells the template's end
-unfoldable pub backRefusal : List ℕ → Refusal
-backRefusal s =
-    gate (eqb (length s) 256) (refuse 1 0 0)
-    (gate (eqb (fieldWrong (fieldOf s)) 0) (refuse 4 (fieldWrong (fieldOf s)) 0)
-    (tailRefusal s))
+unfoldable pub sameIn : List ℕ → ℕ
+sameIn p = cond (leb 3 (length p) && leb (length p) 256) (sameTail p) 0
 
 -- the address behind the template, where the length field is right
 pub record Framed (s : List ℕ) (end : ℕ) : Type 0 where

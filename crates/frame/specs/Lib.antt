@@ -1,3 +1,2 @@
 -- What stands around the objects of a card.
-pub mod Frame
 pub mod Checks

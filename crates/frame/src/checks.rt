@@ -1,17 +1,17 @@
-// What is refused before the objects and behind them, in the document's order.
+// What is refused before the objects, in the document's order.
 use crate::head::head_end;
-use crate::tail::tail_same;
 use card::Refusal;
 ghost use mathlib.Core.Path.{_≡_};
-ghost use Rattle.frame.specs.Checks.{frontRefusal, tailRefusal, Framed};
+ghost use lib.ListN.{length};
+ghost use Rattle.card.specs.Frame.{fieldWrong, fieldOf};
+ghost use Rattle.card.specs.Reading.{frontRefusal};
+ghost use Rattle.frame.specs.Checks.{openRefusal};
 
-// 1, 3, then 4, where the length field is wrong at `wrong`, or 0.
-pub(crate) fn refuse_front(image: &[u8], wrong: usize) -> Refusal
-    ensures { λ r. ⌜ r ≡ frontRefusal (now (image .entry)) wrong ⌝ }
+// 3, then 4, where the length field is wrong at `wrong`, or 0.
+fn refuse_front(image: &[u8], wrong: usize) -> Refusal
+    requires { ⌜ (length (now image) ≡ 256) × (wrong ≡ fieldWrong (fieldOf (now image))) ⌝ }
+    ensures { λ r. ⌜ r ≡ frontRefusal (now (image .entry)) ⌝ }
 {
-    if image.len() != 256 {
-        return Refusal::new(1, 0, 0);
-    }
     if !card::allows_first(image[0]) {
         return Refusal::new(3, 0, 0);
     }
@@ -28,21 +28,16 @@ pub(crate) fn refuse_front(image: &[u8], wrong: usize) -> Refusal
     Refusal::none()
 }
 
-// 13, then 14, behind a template that ends at `end`.
-pub(crate) fn check_tail(image: &[u8], end: usize) -> Refusal
-    requires { ⌜ Framed (now image) end ⌝ }
-    ensures { λ r. ⌜ r ≡ tailRefusal (now (image .entry)) ⌝ }
+// 1, the refusal of the edition, 3 and 4.
+pub(crate) fn refuse_open(image: &[u8], edition: Refusal, wrong: usize) -> Refusal
+    requires { ⌜ wrong ≡ fieldWrong (fieldOf (now image)) ⌝ }
+    ensures { λ r. ⌜ r ≡ openRefusal edition (now (image .entry)) ⌝ }
 {
-    let last = end - 1;
-    if image[last] != card::checksum(&image[30..last]) {
-        return Refusal::new(13, last, 0);
+    if image.len() != 256 {
+        return Refusal::new(1, 0, 0);
     }
-    let right = end + tail_same(&image[end..]);
-    if right != 256 {
-        return Refusal::new(14, right, 0);
+    if edition.number != 0 {
+        return edition;
     }
-    if !card::allows_last(image[0], image[255]) {
-        return Refusal::new(14, 255, 0);
-    }
-    Refusal::none()
+    refuse_front(image, wrong)
 }

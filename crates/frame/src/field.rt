@@ -1,7 +1,7 @@
 // The template's length field.
 use card::LengthField;
 ghost use mathlib.Core.Path.{_≡_};
-ghost use Rattle.frame.specs.Frame.{fieldWrong, fieldOf};
+ghost use Rattle.card.specs.Frame.{fieldWrong, fieldOf};
 ghost use Rattle.frame.specs.Checks.{spanOf};
 
 // Where the length field is wrong, 0 where it is right; where the objects start; and the address behind the template.

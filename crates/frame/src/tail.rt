@@ -2,12 +2,12 @@
 use crate::head::count_same;
 ghost use mathlib.Core.Path.{_≡_};
 ghost use mathlib.Core.List.{_∷_};
-ghost use Prim.Native.Nat.{_+_, _-_, _≤_};
+ghost use Prim.Native.Nat.{_+_, _≤_};
 ghost use lib.Dec.{eqb};
-ghost use lib.ListN.{length, getD, replicate};
+ghost use lib.ListN.{length, replicate};
 ghost use Rattle.rules.specs.Lists.{agree};
 ghost use Rattle.card.specs.Fields.{lengthField};
-ghost use Rattle.card.specs.Layout.{filler};
+ghost use Rattle.frame.specs.Checks.{sameTail, sameIn};
 
 // How many bytes the tag and the length of a filler of so many spaces take.
 fn lead_size(count: usize) -> usize
@@ -67,10 +67,10 @@ fn count_run(part: &[u8], b: u8) -> usize
     }
 }
 
-// How many bytes of the part that begins behind the template are as they must be.
-pub(crate) fn tail_same(part: &[u8]) -> usize
+// The same as count_tail, of a part that a card may have.
+fn count_right(part: &[u8]) -> usize
     requires { ⌜ (3 ≤ length (now part)) × (length (now part) ≤ 256) ⌝ }
-    ensures { λ r. ⌜ r ≡ agree (filler (length (now (part .entry)) - 1) (getD (now (part .entry)) (length (now (part .entry)) - 1) 0)) (now (part .entry)) ⌝ }
+    ensures { λ r. ⌜ r ≡ sameTail (now (part .entry)) ⌝ }
 {
     let size = part.len();
     let spaces = card::count_spaces(size - 1);
@@ -88,4 +88,17 @@ pub(crate) fn tail_same(part: &[u8]) -> usize
         return stop;
     }
     size
+}
+
+// How many bytes of the part that begins behind the template are as they must be; 0 for a part that no card has.
+pub fn count_tail(part: &[u8]) -> usize
+    ensures { λ r. ⌜ r ≡ sameIn (now (part .entry)) ⌝ }
+{
+    if part.len() < 3 {
+        return 0;
+    }
+    if part.len() > 256 {
+        return 0;
+    }
+    count_right(part)
 }

@@ -3,10 +3,10 @@ mod bytes;
 mod records;
 mod refusals;
 
+use card::Reading;
 use card::Record;
 use card::Refusal;
 use edition::Edition;
-use reader::Reading;
 ghost use mathlib.Core.Path.{_≡_};
 ghost use mathlib.Core.Bool.{cond};
 ghost use lib.Dec.{eqb};

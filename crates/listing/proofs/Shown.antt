@@ -6,8 +6,8 @@ use lib.Seq.{take-append-seam}
 use Rattle.edition.specs.declared.Edition.{Edition}
 use Rattle.card.specs.Content.{Content, valueOf, contentOf, objectOf, recordOf, emptyRecord}
 use Rattle.card.proofs.Records.{value-back}
-use Rattle.reader.specs.declared.Reading.{Reading}
-use Rattle.reader.specs.Reading.{Answer, accepted, refused, answer, answerOf, reading}
+use Rattle.card.specs.declared.Reading.{Reading}
+use Rattle.card.specs.Reading.{Answer, accepted, refused, answer, answerOf, reading}
 use Rattle.listing.specs.Listing.{listing, listingOf}
 use Rattle.listing.specs.Rooms.{shown, shownOf}
 

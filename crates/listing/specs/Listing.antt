@@ -6,7 +6,7 @@ use lib.Dec.{ltb, eqb}
 use Rattle.card.specs.declared.Refusal.{Refusal}
 use Rattle.card.specs.Content.{contentOf}
 use Rattle.card.specs.Layout.{objectTags}
-use Rattle.reader.specs.declared.Reading.{Reading}
+use Rattle.card.specs.declared.Reading.{Reading}
 
 -- a byte as two capital hex digits
 abbrev pub hexDigit : ℕ → ℕ

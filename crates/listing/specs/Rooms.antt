@@ -9,7 +9,7 @@ use lib.Seq.{sets}
 use Rattle.edition.specs.declared.Edition.{Edition}
 use Rattle.card.specs.declared.Object.{Object}
 use Rattle.card.specs.declared.Record.{Record}
-use Rattle.reader.specs.Reading.{reading}
+use Rattle.card.specs.Reading.{reading}
 use Rattle.listing.specs.Listing.{listingOf}
 
 -- the longest listing has 9 bytes and sixteen lines of 32

@@ -3,8 +3,8 @@ mod objects;
 mod refusals;
 mod text;
 
+use card::Reading;
 use edition::Edition;
-use reader::Reading;
 ghost use mathlib.Core.Path.{_≡_};
 ghost use Prim.Native.Nat.{_≤_};
 ghost use lib.ListN.{length};

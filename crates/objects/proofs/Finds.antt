@@ -1,27 +1,34 @@
--- What a row finds at an address, and how the walk over the rows goes on. Assumes nothing.
-use Prim.Native.Nat.{ℕ, suc, _+_, _≤_, _<_}
-use native.Mathlib.Nat.{le-of-lt}
+-- What the object reader finds, by the tests in their order, and what the walk over the rows makes of it. Assumes nothing.
+use Prim.Native.Nat.{ℕ, suc, _+_, _-_, _≤_, _<_}
+use native.Mathlib.Nat.{le-of-lt, not-suc-le-zero}
 use native.Mathlib.Omega.{arith}
-use borrow.Author.Tests.{ltb-true, ltb-false, leb-true, leb-false, le-leb, lt-leb, lt-ltb, le-ltb}
-use mathlib.Core.Path.{_≡_, refl, ap}
-use mathlib.Core.Bool.{Bool, true, false, cond, not, _&&_}
-use mathlib.Core.List.{List}
-use lib.Dec.{eqb, leb, ltb}
-use lib.ListN.{length, getD, drop, set, replicate, length-take, drop-of-length-le}
-use lib.Seq.{drop-cons}
+use borrow.Author.Tests.{leb-true, le-leb, lt-leb, eq-eqb, ne-eqb}
+use mathlib.Core.Path.{_≡_, refl, sym, ap, _∙_}
+use mathlib.Core.Bool.{Bool, true, false, cond}
+use mathlib.Core.List.{List, [], _∷_, _++_}
+use lib.Dec.{eqb, leb}
+use lib.ListN.{length, getD, take, drop, length-append, length-drop, drop-of-length-le}
+use lib.Seq.{drop-cons, take-all, length-take-le, drop-append-seam}
 use Rattle.rules.specs.declared.Rule.{Rule}
 use Rattle.edition.specs.declared.Row.{Row}
 use Rattle.rules.specs.declared.values.Verdict.{Verdict}
 use Rattle.rules.specs.declared.values.Verdict.the-variants.{Takes, Outside, Breaks}
+use Rattle.rules.specs.Lists.{among}
 use Rattle.edition.specs.Sets.{permitted}
 use Rattle.rules.specs.Values.{judged, told as verdictTold}
-use Rattle.edition.specs.Rows.{tagOf, noRow}
-use Rattle.rules.proofs.Lists.{true-false, and-left}
+use Rattle.edition.specs.Rows.{tags, tagOf}
+use Rattle.rules.proofs.Lists.{true-false}
 use Rattle.rules.proofs.Verdicts.{nine-means}
-use Rattle.objects.specs.declared.rows.Found.{Found}
-use Rattle.objects.specs.declared.rows.Found.the-variants.{Object, Refused}
-use Rattle.objects.specs.declared.Listing.{Listing}
-use Rattle.objects.specs.Objects.{Told, told, later, missing, valued, valueAt, foundAt, here, readAt, finished, onFound, listFrom, listed}
+use Rattle.card.specs.declared.Refusal.{Refusal}
+use Rattle.card.specs.Refusals.{refuse, refuseLength}
+use Rattle.card.specs.Walk.{Seen, absent, there, wrong, weighed, objectAt, passed, look}
+use Rattle.objects.specs.declared.standing.Found.{Found}
+use Rattle.objects.specs.declared.standing.Found.the-variants.{Object, Refused}
+use Rattle.objects.specs.declared.standing.Met.the-variants.{Absent, There, Wrong}
+use Rattle.card.specs.Rules.{Entry}
+use Rattle.card.proofs.Walks.{View, left-out, found, amiss, view}
+use Rattle.edition.proofs.Sets.{never-0}
+use Rattle.objects.specs.Objects.{Told, told, entryOf, foundOf, valued, here, missing, refusalOf, metOf}
 
 -- no two answers are told alike
 pub told-apart : (a b : Found) → told a ≡ told b → a ≡ b
@@ -47,148 +54,209 @@ index-within rule v = go (judged rule v) refl
     go (Outside i) e = le-of-lt (nine-means rule v i e .inside)
     go Breaks e = omega arith
 
--- a tag that is here lies before the end
-pub here-inside : (s : List ℕ) (at end k : ℕ) → here s at end k ≡ true → at < end
-here-inside s at end k e = ltb-true at end (and-left (ltb at end) (eqb (getD s at 0) (tagOf k)) e)
+-- ---- the head of what is left
+pub here-end : (k : ℕ) (l : List ℕ) → length l ≡ 0 → here k l ≡ false
+here-end k [] e = refl
+here-end k (b ∷ l) e = absurd (omega arith)
 
--- ---- what is found where row k's tag stands, by the tests in their order
-module _ (s : List ℕ) (at end k : ℕ) (r : Row) where
-  -- the length byte
-  abbrev pub lengthByte : ℕ
-  lengthByte = getD s (at + 1) 0
+pub here-head : (k : ℕ) (l : List ℕ) → 0 < length l → here k l ≡ eqb (getD l 0 0) (tagOf k)
+here-head k [] h = absurd (not-suc-le-zero h)
+here-head k (b ∷ l) h = refl
 
-  pub data Sight : Found → Type 0 where
-    cut : end ≤ at + 1 → Sight (Refused 8 at (tagOf k))
-    unlisted : at + 1 < end → permitted (r .lengths) lengthByte ≡ false → Sight (Refused 7 (at + 1) (tagOf k))
-    overlong : at + 1 < end → permitted (r .lengths) lengthByte ≡ true → end < at + 2 + lengthByte → Sight (Refused 8 at (tagOf k))
-    weighs : at + 1 < end → permitted (r .lengths) lengthByte ≡ true → at + 2 + lengthByte ≤ end
-        → (v : Verdict) → judged (r .rule) (valueAt s (at + 2) lengthByte) ≡ v → Sight (valued k (at + 2) lengthByte v)
+pub here-some : (k : ℕ) (l : List ℕ) → here k l ≡ true → 0 < length l
+here-some k [] e = absurd (true-false e refl)
+here-some k (b ∷ l) e = omega arith
 
-  -- the answer at each test
-  pub found-cut : end ≤ at + 1 → foundAt s at end k r ≡ Refused 8 at (tagOf k)
-  unfolding foundAt
-  found-cut h = rw (le-leb end (at + 1) h)
+-- a part up to the end is what is left
+pub part-left : (n : ℕ) (l : List ℕ) → take (length l - n) (drop n l) ≡ drop n l
+part-left n l = take-all (length l - n) (drop n l) (omega (arith, length-drop n l))
 
-  pub found-unlisted : at + 1 < end → permitted (r .lengths) lengthByte ≡ false → foundAt s at end k r ≡ Refused 7 (at + 1) (tagOf k)
-  unfolding foundAt
-  found-unlisted h b = rw (lt-leb end (at + 1) h, b)
+pub missing-end : (k at : ℕ) (l : List ℕ) → length l ≡ 0 → missing k at l ≡ refuse 6 at (tagOf k)
+missing-end k at [] e = refl
+missing-end k at (b ∷ l) e = absurd (omega arith)
 
-  pub found-overlong : at + 1 < end → permitted (r .lengths) lengthByte ≡ true → end < at + 2 + lengthByte → foundAt s at end k r ≡ Refused 8 at (tagOf k)
-  unfolding foundAt
-  found-overlong h b c = rw (lt-leb end (at + 1) h, b, lt-ltb end (at + 2 + lengthByte) c)
+pub missing-head : (k at : ℕ) (l : List ℕ) → 0 < length l → missing k at l ≡ cond (among (getD l 0 0) (drop (suc k) tags)) (refuse 6 at (tagOf k)) (refuse 5 at 0)
+missing-head k at [] h = absurd (not-suc-le-zero h)
+missing-head k at (b ∷ l) h = refl
 
-  pub found-weighed : at + 1 < end → permitted (r .lengths) lengthByte ≡ true → at + 2 + lengthByte ≤ end
-      → foundAt s at end k r ≡ valued k (at + 2) lengthByte (judged (r .rule) (valueAt s (at + 2) lengthByte))
-  unfolding foundAt
-  found-weighed h b c = rw (lt-leb end (at + 1) h, b, le-ltb end (at + 2 + lengthByte) c)
+-- ---- the tags from number j on
+pub later-here : (b j : ℕ) → j < 17 → b ≡ tagOf j → among b (drop j tags) ≡ true
+unfolding among tags
+later-here b j h e = rw (drop-cons tags j 0 h, eq-eqb b (tagOf j) e)
 
-  pub sight : Sight (foundAt s at end k r)
-  unfolding foundAt
-  sight = go (leb end (at + 1)) refl (permitted (r .lengths) lengthByte) refl (ltb end (at + 2 + lengthByte)) refl
+pub later-next : (b j : ℕ) → j < 17 → (b ≡ tagOf j → ⊥) → among b (drop j tags) ≡ among b (drop (suc j) tags)
+unfolding among tags
+later-next b j h e = rw (drop-cons tags j 0 h, ne-eqb b (tagOf j) e)
+
+pub later-end : (b j : ℕ) → 17 ≤ j → among b (drop j tags) ≡ false
+unfolding among tags
+later-end b j h = rw (drop-of-length-le tags h)
+
+-- ---- the object that stands at `at`, where l is left behind its tag
+module _ (k at : ℕ) (r : Row) where
+  pub found-cut : (l : List ℕ) → length l ≡ 0 → objectAt (entryOf k r) at l ≡ wrong (refuse 8 at (tagOf k))
+  unfolding objectAt
+  found-cut [] e = refl
+  found-cut (n ∷ l) e = absurd (omega arith)
+
+  pub found-unlisted : (l : List ℕ) → 0 < length l → permitted (r .lengths) (getD l 0 0) ≡ false
+      → objectAt (entryOf k r) at l ≡ wrong (refuseLength (at + 1) (tagOf k) (r .lengths))
+  unfolding objectAt
+  found-unlisted [] h b = absurd (not-suc-le-zero h)
+  found-unlisted (n ∷ l) h b = rw b
+
+  pub found-overlong : (l : List ℕ) → 0 < length l → permitted (r .lengths) (getD l 0 0) ≡ true → length l < 1 + getD l 0 0
+      → objectAt (entryOf k r) at l ≡ wrong (refuse 8 at (tagOf k))
+  unfolding objectAt
+  found-overlong [] h b c = absurd (not-suc-le-zero h)
+  found-overlong (n ∷ l) h b c = rw (b, lt-leb n (length l) (omega arith))
+
+  pub found-weighed : (l : List ℕ) → 0 < length l → permitted (r .lengths) (getD l 0 0) ≡ true → 1 + getD l 0 0 ≤ length l
+      → objectAt (entryOf k r) at l
+      ≡ weighed (entryOf k r) (at + 2) (take (getD l 0 0) (drop 1 l)) (drop (getD l 0 0) (drop 1 l)) (judged (r .rule) (take (getD l 0 0) (drop 1 l)))
+  unfolding objectAt
+  found-weighed [] h b c = absurd (not-suc-le-zero h)
+  found-weighed (n ∷ l) h b c = rw (b, le-leb n (length l) (omega arith))
+
+  pub weighed-found : (v rest : List ℕ) (d : Verdict) → foundOf k at (weighed (entryOf k r) (at + 2) v rest d) ≡ valued k (at + 2) (length v) d
+  unfolding foundOf weighed valued
+  weighed-found v rest Takes = refl
+  weighed-found v rest (Outside i) = refl
+  weighed-found v rest Breaks = refl
+
+  -- its value, or a refusal, which its number, place and tag tell whole
+  pub data Stands (l : List ℕ) : Seen → Type 0 where
+    taken : (n : ℕ) → permitted (r .lengths) n ≡ true → 1 + n ≤ length l → Stands l (there (take n (drop 1 l)) (drop n (drop 1 l)))
+    turned : (x : Refusal) → refusalOf (r .lengths) (x .number) (x .place) (x .tag) ≡ x → 0 < x .number → Stands l (wrong x)
+
+  pub stands : (l : List ℕ) → Stands l (objectAt (entryOf k r) at l)
+  unfolding objectAt weighed refusalOf
+  stands [] = turned (refuse 8 at (tagOf k)) refl (omega arith)
+  stands (n ∷ l) = go (permitted (r .lengths) n) refl (leb n (length l)) refl (judged (r .rule) (take n l))
     where
-      go : (a : Bool) → leb end (at + 1) ≡ a → (b : Bool) → permitted (r .lengths) lengthByte ≡ b → (c : Bool) → ltb end (at + 2 + lengthByte) ≡ c
-          → Sight
-          (cond a (Refused 8 at (tagOf k))
-          (cond b (cond c (Refused 8 at (tagOf k)) (valued k (at + 2) lengthByte (judged (r .rule) (valueAt s (at + 2) lengthByte)))) (Refused 7 (at + 1) (tagOf k))))
-      go true ea b eb c ec = cut (leb-true end (at + 1) ea)
-      go false ea false eb c ec = unlisted (leb-false end (at + 1) ea) eb
-      go false ea true eb true ec = overlong (leb-false end (at + 1) ea) eb (ltb-true end (at + 2 + lengthByte) ec)
-      go false ea true eb false ec = weighs (leb-false end (at + 1) ea) eb (ltb-false end (at + 2 + lengthByte) ec) _ refl
+      go : (p : Bool) → permitted (r .lengths) n ≡ p → (q : Bool) → leb n (length l) ≡ q → (d : Verdict)
+          → Stands (n ∷ l)
+          (cond p (cond q (weighed (entryOf k r) (at + 2) (take n l) (drop n l) d) (wrong (refuse 8 at (tagOf k)))) (wrong (refuseLength (at + 1) (tagOf k) (r .lengths))))
+      go false e q f d = turned (refuseLength (at + 1) (tagOf k) (r .lengths)) refl (omega arith)
+      go true e false f d = turned (refuse 8 at (tagOf k)) refl (omega arith)
+      go true e true f Takes = taken n e (omega (arith, leb-true n (length l) f))
+      go true e true f (Outside i) = turned (refuse 9 (at + 2 + i) (tagOf k)) refl (omega arith)
+      go true e true f Breaks = turned (refuse 10 (at + 2) (tagOf k)) refl (omega arith)
 
--- ---- what row k finds: its value, or where it is refused
--- the value that a row which is reached at `at` has: behind its tag and its length byte, or none
-pub data Value (at end : ℕ) (r : Row) : ℕ → ℕ → Type 0 where
-  there : {n : ℕ} → permitted (r .lengths) n ≡ true → at + 2 + n ≤ end → Value at end r (at + 2) n
-  none : r .required ≡ false → Value at end r at 0
+  -- ---- what the row finds
+  pub look-here : (ts l : List ℕ) → here k l ≡ true → look (entryOf k r) ts at l ≡ objectAt (entryOf k r) at (drop 1 l)
+  unfolding look
+  look-here ts [] e = absurd (true-false e refl)
+  look-here ts (b ∷ l) e = rw e
 
--- a refusal has a number, and its place is not behind the end
-pub record Stops (end x place : ℕ) : Type 0 where
-  pub number : 0 < x
-  pub inside : place ≤ end
+  pub look-passed : (ts l : List ℕ) → here k l ≡ false → r .required ≡ false → look (entryOf k r) ts at l ≡ absent
+  unfolding look passed
+  look-passed ts [] e q = rw q
+  look-passed ts (b ∷ l) e q = rw (e, q)
 
-pub data Reads (at end k : ℕ) (r : Row) : Found → Type 0 where
-  takes : (start n : ℕ) → Value at end r start n → Reads at end k r (Object k start n)
-  stops : (x place tag : ℕ) → Stops end x place → Reads at end k r (Refused x place tag)
+  pub look-missing : (l : List ℕ) → here k l ≡ false → r .required ≡ true → look (entryOf k r) (drop (suc k) tags) at l ≡ wrong (missing k at l)
+  unfolding look passed
+  look-missing [] e q = rw q
+  look-missing (b ∷ l) e q = rw (e, q)
 
-module _ (s : List ℕ) (at end k : ℕ) (r : Row) (low : at ≤ end) where
-  found-reads : Reads at end k r (foundAt s at end k r)
-  unfolding valued
-  found-reads = go (foundAt s at end k r) (sight s at end k r)
-    where
-      go : (f : Found) → Sight s at end k r f → Reads at end k r f
-      go f (cut h) = stops 8 at _ record { number = omega arith; inside = low }
-      go f (unlisted h b) = stops 7 (at + 1) _ record { number = omega arith; inside = omega arith }
-      go f (overlong h b c) = stops 8 at _ record { number = omega arith; inside = low }
-      go f (weighs h b c Takes v) = takes (at + 2) _ (there b c)
-      go f (weighs h b c (Outside i) v) =
-          let value = valueAt s (at + 2) (getD s (at + 1) 0) in
-          let within = nine-means (r .rule) value i v .inside in
-          let short = length-take (getD s (at + 1) 0) (drop (at + 2) s) in
-          stops 9 (at + 2 + i) _ record { number = omega arith; inside = omega arith }
-      go f (weighs h b c Breaks v) = stops 10 (at + 2) _ record { number = omega arith; inside = omega arith }
+  -- ---- what the answer of the object reader says of what stands there
+  pub record Took (l : List ℕ) (start n : ℕ) (x : Seen) : Type 0 where
+    pub begins : start ≡ at + 2
+    pub inside : 1 + n ≤ length l
+    pub allowed : permitted (r .lengths) n ≡ true
+    pub is : x ≡ there (take n (drop 1 l)) (drop n (drop 1 l))
 
-  missing-reads : (b : ℕ) → Reads at end k r (missing at end k b)
-  unfolding missing
-  missing-reads b = go (ltb at end && not (later k b))
-    where
-      go : (q : Bool) → Reads at end k r (cond q (Refused 5 at 0) (Refused 6 at (tagOf k)))
-      go true = stops 5 at 0 record { number = omega arith; inside = low }
-      go false = stops 6 at (tagOf k) record { number = omega arith; inside = low }
+  pub took : (l : List ℕ) (x : Seen) (j start n : ℕ) → Stands l x → foundOf k at x ≡ Object j start n → Took l start n x
+  unfolding foundOf
+  took l x j start n (taken m p h) e =
+      let long : length (take m (drop 1 l)) ≡ m = length-take-le m (drop 1 l) (omega (arith, length-drop 1 l)) in
+      let begins : at + 2 ≡ start = cc in
+      let same : length (take m (drop 1 l)) ≡ n = cc in
+      let is : m ≡ n = sym long ∙ same in
+      record { begins = sym begins; inside = omega arith; allowed = rw (← is) p; is = rw (← is) refl }
+  took l x j start n (turned y f h) e = absurd (let z : _≡_ {A = ℕ} 0 1 = cc in omega arith)
 
-  pub reads : Reads at end k r (readAt s at end k r)
-  unfolding readAt
-  reads = go (here s at end k) (r .required) refl
-    where
-      go : (a q : Bool) → r .required ≡ q → Reads at end k r (cond a (foundAt s at end k r) (cond q (missing at end k (getD s at 0)) (Object k at 0)))
-      go true q e = found-reads
-      go false true e = missing-reads (getD s at 0)
-      go false false e = takes at 0 (none e)
+  pub told-off : (l : List ℕ) (x : Seen) (a b c : ℕ) → Stands l x → foundOf k at x ≡ Refused a b c → (x ≡ wrong (refusalOf (r .lengths) a b c)) × (0 < refusalOf (r .lengths) a b c .number)
+  unfolding foundOf
+  told-off l x a b c (taken m p h) e = absurd (let z : _≡_ {A = ℕ} 0 1 = cc in omega arith)
+  told-off l x a b c (turned y f h) e =
+      let na : y .number ≡ a = cc in
+      let nb : y .place ≡ b = cc in
+      let nc : y .tag ≡ c = cc in
+      let same : refusalOf (r .lengths) a b c ≡ y = rw (← na, ← nb, ← nc) f in
+      rw same (refl, h)
 
--- a value ends before the end
-pub value-inside : (at end start n : ℕ) (r : Row) → at ≤ end → Value at end r start n → start + n ≤ end
-value-inside at end start n r low (there b c) = c
-value-inside at end start n r low (none q) = omega arith
+  -- the answer is that of what stands there
+  pub answer-is : (l part : List ℕ) (f : Found) → part ≡ l → told f ≡ told (foundOf k at (objectAt (entryOf k r) at part)) → foundOf k at (objectAt (entryOf k r) at l) ≡ f
+  answer-is l part f e t = sym (told-apart f _ t ∙ ap (λ (x : List ℕ). foundOf k at (objectAt (entryOf k r) at x)) e)
 
-pub read-inside : (s : List ℕ) (at end k : ℕ) (r : Row) (j start n : ℕ) → at ≤ end → readAt s at end k r ≡ Object j start n → start + n ≤ end
-read-inside s at end k r j start n low e = go (readAt s at end k r) (reads s at end k r low) e
+  -- ---- what the row meets
+  module _ (ts l : List ℕ) where
+    pub meets-there : (start n : ℕ) → here k l ≡ true → Took (drop 1 l) start n (objectAt (entryOf k r) at (drop 1 l)) → There start n ≡ metOf at (look (entryOf k r) ts at l)
+    unfolding metOf
+    meets-there start n h t =
+        let long : length (take n (drop 1 (drop 1 l))) ≡ n = length-take-le n (drop 1 (drop 1 l)) (omega (arith, t .inside, length-drop 1 (drop 1 l))) in
+        rw (look-here ts l h, t .is, long, t .begins)
+
+    pub meets-wrong : (x : Refusal) → here k l ≡ true → objectAt (entryOf k r) at (drop 1 l) ≡ wrong x → Wrong x ≡ metOf at (look (entryOf k r) ts at l)
+    unfolding metOf
+    meets-wrong x h e = rw (look-here ts l h, e)
+
+    pub meets-absent : here k l ≡ false → r .required ≡ false → Absent ≡ metOf at (look (entryOf k r) ts at l)
+    unfolding metOf
+    meets-absent h q = rw (look-passed ts l h q)
+
+  pub meets-missing : (l : List ℕ) → here k l ≡ false → r .required ≡ true → Wrong (missing k at l) ≡ metOf at (look (entryOf k r) (drop (suc k) tags) at l)
+  unfolding metOf
+  meets-missing l h q = rw (look-missing l h q)
+
+-- ---- and what it has met
+pub met-absent : (at : ℕ) (x : Seen) → metOf at x ≡ Absent → x ≡ absent
+unfolding metOf
+met-absent at absent e = refl
+met-absent at (there v rest) e = absurd (let z : _≡_ {A = ℕ} 0 1 = cc in omega arith)
+met-absent at (wrong y) e = absurd (let z : _≡_ {A = ℕ} 0 1 = cc in omega arith)
+
+pub met-wrong : (at : ℕ) (x : Seen) (y : Refusal) → metOf at x ≡ Wrong y → x ≡ wrong y
+unfolding metOf
+met-wrong at absent y e = absurd (let z : _≡_ {A = ℕ} 0 1 = cc in omega arith)
+met-wrong at (there v rest) y e = absurd (let z : _≡_ {A = ℕ} 0 1 = cc in omega arith)
+met-wrong at (wrong x) y e = cc
+
+-- its value lies in the bytes that are left
+pub record Lies (l : List ℕ) (at start n : ℕ) (x : Seen) : Type 0 where
+  pub v : List ℕ
+  pub begins : start ≡ at + 2
+  pub some : 0 < n
+  pub long : length v ≡ n
+  pub inside : 2 + n ≤ length l
+  pub is : x ≡ there v (drop (2 + n) l)
+
+behind-value : (t n : ℕ) (v rest : List ℕ) → length v ≡ n → drop (2 + n) (t ∷ length v ∷ (v ++ rest)) ≡ rest
+behind-value t n v rest e =
+    let two : 2 + n ≡ suc (suc n) = omega arith in
+    rw (two, ← e) (drop-append-seam v rest)
+
+pub met-there : (r : Entry) (ts l : List ℕ) (at start n : ℕ) → metOf at (look r ts at l) ≡ There start n → Lies l at start n (look r ts at l)
+unfolding metOf
+met-there r ts l at start n e = go (view r ts at l) e
   where
-    go : (f : Found) → Reads at end k r f → f ≡ Object j start n → start + n ≤ end
-    go f (takes start′ n′ v) p =
-        let begins : start′ ≡ start = cc in
-        let long : n′ ≡ n = cc in
-        omega (arith, value-inside at end start′ n′ r low v)
-    go f (stops x place tag w) p = absurd (let z : _≡_ {A = ℕ} 0 1 = cc in omega arith)
-
--- ---- the answer for row k, by whether its tag is here
-module _ (s : List ℕ) (at end k : ℕ) (r : Row) where
-  pub read-here : here s at end k ≡ true → readAt s at end k r ≡ foundAt s at end k r
-  unfolding readAt
-  read-here t = rw t
-
-  pub read-missing : here s at end k ≡ false → r .required ≡ true → readAt s at end k r ≡ missing at end k (getD s at 0)
-  unfolding readAt
-  read-missing t q = rw (t, q)
-
-  pub read-none : here s at end k ≡ false → r .required ≡ false → readAt s at end k r ≡ Object k at 0
-  unfolding readAt
-  read-none t q = rw (t, q)
-
--- ---- the walk at row k, and behind the last row
-module _ (s : List ℕ) (end : ℕ) (rows : List Row) (k at : ℕ) (st ls : List ℕ) where
-  -- the reading behind row k's value
-  abbrev pub onwards : ℕ → ℕ → ℕ → Listing
-  onwards j start n = listFrom s end (suc k) (drop (suc k) rows) (start + n) (set st k start) (set ls k n)
-
-  pub list-row : k < length rows → listFrom s end k (drop k rows) at st ls ≡ onFound (readAt s at end k (getD rows k noRow)) at st ls onwards
-  unfolding listFrom
-  list-row h = rw (drop-cons rows k noRow h)
-
-  pub list-end : length rows ≤ k → listFrom s end k (drop k rows) at st ls ≡ finished at st ls
-  unfolding listFrom
-  list-end h = rw (drop-of-length-le rows h)
-
--- the bytes have such a template
-pub listed-within : (s : List ℕ) (rows : List Row) (from end : ℕ) → from ≤ end → end ≤ 255 → end ≤ length s
-    → listed s rows from end ≡ listFrom s end 0 rows from (replicate 17 0) (replicate 17 0)
-unfolding listed
-listed-within s rows from end a b c = rw (le-leb from end a, le-leb end 255 b, le-leb end (length s) c)
+    go : {x : Seen} → View r l x → metOf at x ≡ There start n → Lies l at start n x
+    go (left-out h) q = absurd (let z : _≡_ {A = ℕ} 0 1 = cc in omega arith)
+    go amiss q = absurd (let z : _≡_ {A = ℕ} 0 1 = cc in omega arith)
+    go (found {v} {rest} b p d) q =
+        let long : length v ≡ n = cc in
+        let begins : at + 2 ≡ start = cc in
+        let size = ap length b in
+        record {
+          v = v;
+          begins = sym begins;
+          some = not-none v long p;
+          long = long;
+          inside = omega (arith, length-append v rest);
+          is = rw b (ap (there v) (sym (behind-value (r .tag) n v rest long)));
+        }
+      where
+        not-none : (v : List ℕ) → length v ≡ n → permitted (r .row .lengths) (length v) ≡ true → 0 < n
+        not-none [] e p = absurd (true-false p (never-0 (r .row .lengths)))
+        not-none (b ∷ v) e p = omega arith

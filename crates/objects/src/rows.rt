@@ -1,140 +1,87 @@
-// What each row finds, by addresses.
-use crate::Listing;
+// The rows one after the other.
+use crate::standing::Met;
+use crate::standing::meet_row;
+use card::Places;
+use card::Refusal;
 use edition::Row;
-use rules::Verdict;
 ghost use mathlib.Core.Path.{_≡_};
-ghost use Prim.Native.Nat.{_+_, _<_, _≤_};
-ghost use lib.ListN.{length, getD, replicate};
-ghost use Rattle.rules.specs.Values.{told as verdictTold};
-ghost use Rattle.objects.specs.Objects.{told, rowOf, missing, valued, foundAt, readAt, listFrom};
+ghost use mathlib.Core.List.{[], _∷_};
+ghost use Prim.Native.Nat.{_+_, _≤_};
+ghost use lib.ListN.{length};
+ghost use Rattle.edition.specs.Rows.{tags};
+ghost use Rattle.card.specs.Refusals.{none};
+ghost use Rattle.card.specs.Rules.{entries};
+ghost use Rattle.card.specs.Walk.{walk};
+ghost use Rattle.card.specs.Reading.{restRefusal};
+ghost use Rattle.card.specs.Places.{noPlaces};
+ghost use mathlib.Core.Bool.{cond};
+ghost use lib.Dec.{eqb};
+ghost use Rattle.objects.specs.Objects.{entryOf, tableRefusal, tableOf};
 
-// What a row finds.
-pub(crate) enum Found {
-    // The row, where its value starts, and its length; 0 where its object is absent.
-    Object(usize, usize, usize),
-    // The number, the place and the tag.
-    Refused(u8, usize, u8),
-}
-
-// The row that has a tag; 17 where none has.
-pub(crate) fn row_of(tag: u8) -> usize
-    ensures { λ r. ⌜ r ≡ rowOf tag ⌝ }
+// 12, where so many bytes are left at `at`.
+fn refuse_rest(left: usize, at: usize) -> Refusal
+    ensures { λ r. ⌜ r ≡ restRefusal (at + left) left ⌝ }
 {
-    let mut k: usize = 0;
-    while k < 17 {
-        if edition::tag_of(k) == tag {
-            return k;
-        }
-        k += 1;
-    }
-    k
-}
-
-fn byte_at(image: &[u8], at: usize) -> u8
-    ensures { λ r. ⌜ r ≡ getD (now (image .entry)) at 0 ⌝ }
-{
-    if at < image.len() { image[at] } else { 0 }
-}
-
-// What a required row k is refused with where the byte b is met in place of its tag.
-fn refuse_missing(at: usize, end: usize, k: usize, b: u8) -> Found
-    ensures { λ r. ⌜ told r ≡ told (missing at end k b) ⌝ }
-{
-    let row = row_of(b);
-    if (at < end) & !((k < row) & (row < 17)) {
-        Found::Refused(5, at, 0)
+    if left != 0 {
+        Refusal::new(12, at, 0)
     } else {
-        Found::Refused(6, at, edition::tag_of(k))
+        Refusal::none()
     }
 }
 
-// The answer for row k's value, by how it stands to its rule.
-fn weigh(k: usize, start: usize, n: usize, verdict: Verdict) -> Found
-    requires { ⌜ start + verdictTold verdict .index < 65536 ⌝ }
-    ensures { λ r. ⌜ told r ≡ told (valued k start n verdict) ⌝ }
+// What the last row, that of the checksum, and the bytes behind it are refused with.
+fn refuse_last(part: &[u8], at: usize, row: Row) -> Refusal
+    requires { ⌜ at + length (now part) ≤ 255 ⌝ }
+    ensures { λ r. ⌜ r ≡ tableRefusal (at + length (now (part .entry))) (walk (entryOf 16 row ∷ []) at (now (part .entry))) ⌝ }
 {
-    match verdict {
-        Verdict::Takes => Found::Object(k, start, n),
-        Verdict::Outside(i) => Found::Refused(9, start + i, edition::tag_of(k)),
-        Verdict::Breaks => Found::Refused(10, start, edition::tag_of(k)),
+    match meet_row(part, at, 16, row) {
+        Met::Absent => refuse_rest(part.len(), at),
+        Met::There { start, length } => refuse_rest(part.len() - (2 + length), start + length),
+        Met::Wrong { refusal } => refusal,
     }
 }
 
-// Row k's object, whose tag stands at `at`.
-fn object_at(image: &[u8], at: usize, end: usize, k: usize, row: Row) -> Found
-    requires { ⌜ (at < end) × ((end ≤ 256) × (end ≤ length (now image))) ⌝ }
-    ensures { λ r. ⌜ told r ≡ told (foundAt (now (image .entry)) at end k row) ⌝ }
+// The table with a refusal, and else with the places that were found.
+fn close(refusal: Refusal, starts: [u8; 16], lengths: [u8; 16]) -> Places
+    ensures { λ r. ⌜ r ≡ cond (eqb (refusal .number) 0) (record { refusal = none; starts = starts; lengths = lengths }) (noPlaces refusal) ⌝ }
 {
-    let length_at = at + 1;
-    if end <= length_at {
-        return Found::Refused(8, at, edition::tag_of(k));
+    if refusal.number != 0 {
+        return Places::refused(refusal);
     }
-    let n = image[length_at];
-    if !edition::permits(row.lengths, n) {
-        return Found::Refused(7, length_at, edition::tag_of(k));
-    }
-    let start = at + 2;
-    let stop = start + n as usize;
-    if end < stop {
-        return Found::Refused(8, at, edition::tag_of(k));
-    }
-    let rule = row.rule;
-    let verdict = rules::judge(rule, &image[start..stop]);
-    weigh(k, start, n as usize, verdict)
-}
-
-// What row k finds at `at`: its object; where that is not there, a refusal if it is required, and else the length 0.
-pub(crate) fn read_object(image: &[u8], at: usize, end: usize, k: usize, row: Row) -> Found
-    requires { ⌜ (end ≤ 256) × (end ≤ length (now image)) ⌝ }
-    ensures { λ r. ⌜ told r ≡ told (readAt (now (image .entry)) at end k row) ⌝ }
-{
-    let b = byte_at(image, at);
-    if (at < end) & (b == edition::tag_of(k)) {
-        return object_at(image, at, end, k, row);
-    }
-    if row.required {
-        return refuse_missing(at, end, k, b);
-    }
-    Found::Object(k, at, 0)
-}
-
-// What all rows find from `from` to `end`.
-pub(crate) fn list_rows(image: &[u8], rows: [Row; 17], from: usize, end: usize) -> Listing
-    requires { ⌜ (from ≤ end) × ((end ≤ 255) × (end ≤ length (now image))) ⌝ }
-    ensures { λ r. ⌜ r ≡ listFrom (now (image .entry)) end 0 rows from (replicate 17 0) (replicate 17 0) ⌝ }
-{
-    let mut starts = [0u8; 17];
-    let mut lengths = [0u8; 17];
-    let mut k: usize = 0;
-    let mut at = from;
-    while k < 17 {
-        let row = rows[k];
-        let found = read_object(image, at, end, k, row);
-        match found {
-            Found::Object(_, start, n) => {
-                starts[k] = start as u8;
-                lengths[k] = n as u8;
-                at = start + n;
-                k += 1;
-            }
-            Found::Refused(number, place, tag) => {
-                return Listing {
-                    number,
-                    place,
-                    tag,
-                    at,
-                    starts,
-                    lengths,
-                };
-            }
-        }
-    }
-    Listing {
-        number: 0,
-        place: 0,
-        tag: 0,
-        at,
+    Places {
+        refusal: Refusal::none(),
         starts,
         lengths,
     }
+}
+
+// The rows of a template whose bytes begin at the address `from`: the sixteen objects, then the checksum.
+pub(crate) fn list_rows(template: &[u8], rows: [Row; 17], from: usize) -> Places
+    requires { ⌜ (from ≤ 33) × (length (now template) ≤ 212) ⌝ }
+    ensures { λ r. ⌜ r ≡ tableOf from (from + length (now (template .entry))) (walk (entries tags rows) from (now (template .entry))) ⌝ }
+{
+    let mut starts = [0u8; 16];
+    let mut lengths = [0u8; 16];
+    let mut k: usize = 0;
+    let mut i: usize = 0;
+    while k < 16 {
+        let row = rows[k];
+        match meet_row(&template[i..], from + i, k, row) {
+            Met::Absent => {
+                k += 1;
+            }
+            Met::There { start, length } => {
+                starts[k] = start as u8;
+                lengths[k] = length as u8;
+                i = i + 2 + length;
+                k += 1;
+            }
+            Met::Wrong { refusal } => {
+                return Places::refused(refusal);
+            }
+        }
+    }
+    let last = rows[16];
+    let refusal = refuse_last(&template[i..], from + i, last);
+    close(refusal, starts, lengths)
 }

@@ -1,5 +1,4 @@
 -- The laws of the definitions.
 pub mod Copies
-pub mod Listed
-pub mod Answers
-pub mod Inspections
+pub mod Tables
+pub mod Values

@@ -1,3 +1,2 @@
 -- What the reader answers.
-pub mod Reading
 pub mod Steps

@@ -1,90 +1,70 @@
-// The reader.
-mod checks;
+// The reader: where the values of an image stand, or its refusal; then the record copied from those places.
+// Both calls are total and promise one answer for any bytes and any edition; neither keeps anything.
+// The refusals are a chain, told in the document's order whatever is found first.
 mod record;
+mod tail;
 
+use card::Places;
+use card::Reading;
 use card::Record;
 use card::Refusal;
-use checks::check_input;
-use checks::check_listing;
 use edition::Edition;
-use edition::Row;
 use record::copy_record;
+use tail::check_behind;
+ghost use Rattle.frame.specs.Checks.{Framed};
 ghost use mathlib.Core.Path.{_≡_};
-ghost use lib.ListN.{length};
-ghost use Rattle.edition.specs.declared.Formed.the-variants.{Well};
-ghost use Rattle.edition.specs.Rows.{formedFrom};
-ghost use Rattle.reader.specs.Reading.{answer, reading};
-ghost use Rattle.reader.specs.Steps.{imageAnswer, Inspected};
+ghost use Rattle.card.specs.Places.{places as placesIn};
+ghost use Rattle.card.specs.Reading.{reading};
+ghost use Rattle.reader.specs.Steps.{settled};
 
-pub struct Reading {
-    pub refusal: Refusal,
-    pub content: Record,
-}
-
-// The refusal; or, where its number is 0, where each row's value starts and how long it is.
-pub(crate) struct Inspection {
-    pub refusal: Refusal,
-    pub starts: [u8; 17],
-    pub lengths: [u8; 17],
-}
-
-fn list_none(refusal: Refusal) -> Inspection
-    ensures { λ r. ⌜ r .refusal ≡ refusal ⌝ }
+// The table as it is, unless something behind the objects is refused.
+fn settle(image: &[u8], end: usize, table: Places) -> Places
+    requires { ⌜ Framed (now image) end ⌝ }
+    ensures { λ r. ⌜ r ≡ settled (now (image .entry)) table ⌝ }
 {
-    Inspection {
-        refusal,
-        starts: [0; 17],
-        lengths: [0; 17],
+    let refusal = table.refusal;
+    if refusal.number != 0 {
+        return Places::refused(refusal);
     }
+    let starts = table.starts;
+    let lengths = table.lengths;
+    let behind = check_behind(image, end, starts, lengths);
+    if behind.number != 0 {
+        return Places::refused(behind);
+    }
+    table
 }
 
-// Inspects an image of 256 bytes under the rows of a well-formed edition.
-fn inspect_image(rows: [Row; 17], image: &[u8]) -> Inspection
-    requires { ⌜ (length (now image) ≡ 256) × (formedFrom 0 rows ≡ Well) ⌝ }
-    ensures { λ r. ⌜ Inspected (imageAnswer rows (now (image .entry))) (now (image .entry)) r ⌝ }
+// Where the values of an image stand, or its refusal.
+pub fn places(edition: Edition, image: &[u8]) -> Places
+    ensures { λ r. ⌜ r ≡ placesIn edition (now (image .entry)) ⌝ }
 {
-    let front = frame::check_front(image);
+    let front = frame::check_front(image, card::refuse_edition(edition));
     let refusal = front.refusal;
     if refusal.number != 0 {
-        return list_none(refusal);
-    }
-    let end = front.end;
-    let listing = objects::list_objects(image, rows, front.start, end);
-    let starts = listing.starts;
-    let lengths = listing.lengths;
-    Inspection {
-        refusal: check_listing(image, rows, listing, end),
-        starts,
-        lengths,
-    }
-}
-
-// Inspects an image, before anything is copied out of it.
-pub(crate) fn inspect(edition: Edition, image: &[u8]) -> Inspection
-    ensures { λ r. ⌜ Inspected (answer edition (now (image .entry))) (now (image .entry)) r ⌝ }
-{
-    let refusal = check_input(edition, image.len());
-    if refusal.number != 0 {
-        return list_none(refusal);
+        return Places::refused(refusal);
     }
     let rows = edition.rows;
-    inspect_image(rows, image)
+    let start = front.start;
+    let end = front.end;
+    let table = objects::list_objects(&image[start..end], rows, start);
+    settle(image, end, table)
 }
 
 // Reads an image: its record, or the refusal and the empty record.
 pub fn read(edition: Edition, image: &[u8]) -> Reading
     ensures { λ r. ⌜ r ≡ reading edition (now (image .entry)) ⌝ }
 {
-    let inspection = inspect(edition, image);
-    let refusal = inspection.refusal;
+    let table = places(edition, image);
+    let refusal = table.refusal;
     if refusal.number != 0 {
         return Reading {
             refusal,
             content: Record::empty(),
         };
     }
-    let starts = inspection.starts;
-    let lengths = inspection.lengths;
+    let starts = table.starts;
+    let lengths = table.lengths;
     Reading {
         refusal: Refusal::none(),
         content: copy_record(image, starts, lengths),

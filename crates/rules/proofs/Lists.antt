@@ -5,12 +5,12 @@ use native.Mathlib.Numerals.{add-one}
 use native.Mathlib.Omega.{arith}
 use borrow.Author.Tests.{eqb-true, eqb-false, eq-eqb, ne-eqb}
 use mathlib.Core.Path.{_≡_, refl, sym, ap}
-use mathlib.Core.Bool.{Bool, true, false, cond, not, _&&_}
-use mathlib.Core.List.{List, [], _∷_}
+use mathlib.Core.Bool.{Bool, true, false, cond, not, _&&_, _||_, or-true}
+use mathlib.Core.List.{List, [], _∷_, _++_}
 use lib.Dec.{eqb}
 use lib.ListN.{length, getD, drop}
 use lib.Seq.{drop-cons, drop-length}
-use Rattle.rules.specs.Lists.{leading, agree}
+use Rattle.rules.specs.Lists.{among, leading, agree}
 
 -- ---- tests
 pub true-false : {b : Bool} → b ≡ true → b ≡ false → ⊥
@@ -139,3 +139,27 @@ agree-same (x ∷ xs) (y ∷ ys) n e = go (eqb x y) refl e (agree-same xs ys)
     go : (q : Bool) → eqb x y ≡ q → cond q (suc (agree xs ys)) 0 ≡ suc (length xs) → (length xs ≡ length ys → agree xs ys ≡ length xs → xs ≡ ys) → x ∷ xs ≡ y ∷ ys
     go true p l ih = rw (eqb-true x y p, ih (omega arith) (omega arith))
     go false p l ih = absurd (omega arith)
+
+pub agree-within : (xs zs : List ℕ) → agree xs zs ≤ length zs
+unfolding agree
+agree-within [] zs = omega arith
+agree-within (x ∷ xs) [] = omega arith
+agree-within (x ∷ xs) (z ∷ zs) = go (eqb x z) (agree-within xs zs)
+  where
+    go : (q : Bool) → agree xs zs ≤ length zs → cond q (suc (agree xs zs)) 0 ≤ suc (length zs)
+    go true h = omega arith
+    go false h = omega arith
+
+-- a longer list has what a shorter one has
+pub among-more : (b t : ℕ) (ts : List ℕ) → among b ts ≡ true → among b (t ∷ ts) ≡ true
+unfolding among
+among-more b t ts h = rw (h, or-true)
+
+pub among-front : (b : ℕ) (ts us : List ℕ) → among b ts ≡ true → among b (ts ++ us) ≡ true
+unfolding among
+among-front b [] us h = absurd (true-false h refl)
+among-front b (t ∷ ts) us h = go (among-front b ts us) (eqb b t) h
+  where
+    go : (among b ts ≡ true → among b (ts ++ us) ≡ true) → (q : Bool) → (q || among b ts) ≡ true → (q || among b (ts ++ us)) ≡ true
+    go ih true e = refl
+    go ih false e = ih e

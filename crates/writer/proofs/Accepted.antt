@@ -22,42 +22,37 @@ use Rattle.card.specs.Content.{Content, valueOf, contentOf}
 use Rattle.card.specs.Layout.{templateLength, objectTags, objectsOf, layout}
 use Rattle.card.specs.Refusals.{none, gate, refuse}
 use Rattle.card.specs.Rules.{entries, length-out, ofVerdict, fault}
-use Rattle.checks.specs.Refusing.{rowRefusal, rowsRefusal, refusal}
-use Rattle.writer.specs.Writing.{refusalOf, bufferAfter}
-use Rattle.checks.specs.Checking.{entryOf, templateRefusal}
+use Rattle.card.specs.Refusing.{rowRefusal, rowsRefusal, templateRefusal, refusal}
+use Rattle.card.specs.Writing.{refusalOf, bufferAfter}
+use Rattle.checks.specs.Checking.{entryOf}
 use Rattle.checks.specs.Checking.{absent}
 use Rattle.writer.specs.Storing.{Storable}
 use Rattle.checks.proofs.Items.{claim-short}
-use Rattle.checks.proofs.Order.{Neither, neither, table-well, row-or, refused-size, in-order}
+use Rattle.card.proofs.Chains.{neither, table-well}
+use Rattle.checks.proofs.Order.{refused-size, in-order}
 
 -- ---- where no row refuses, no object claims more than 28 bytes
-row-short : (t : ℕ) (r : Row) (v : List ℕ) → r .lengths < 2 ^ 29 → rowRefusal (entryOf t r) (fault r v) none .number ≡ 0 → length v ≤ 28
+row-short : (t : ℕ) (r : Row) (v : List ℕ) → r .lengths < 2 ^ 29 → rowRefusal (entryOf t r) (fault r v) .number ≡ 0 → length v ≤ 28
 unfolding fault rowRefusal
 row-short t r [] h e = omega arith
 row-short t r (b ∷ v) h e = go (permitted (r .lengths) (length (b ∷ v))) refl e
   where
     go : (q : Bool) → permitted (r .lengths) (length (b ∷ v)) ≡ q
-        → rowRefusal (entryOf t r) (cond q (ofVerdict (judged (r .rule) (b ∷ v))) length-out) none .number ≡ 0 → length (b ∷ v) ≤ 28
+        → rowRefusal (entryOf t r) (cond q (ofVerdict (judged (r .rule) (b ∷ v))) length-out) .number ≡ 0 → length (b ∷ v) ≤ 28
     go true p z = permits-most (r .lengths) (length (b ∷ v)) h p
     go false p z = absurd (omega arith)
 
--- of a row and what follows it, neither refuses
-parted : (t : ℕ) (r : Row) (o : Object) (w : Refusal) → rowRefusal (entryOf t r) (fault r (valueOf o)) w .number ≡ 0
-    → Neither (rowRefusal (entryOf t r) (fault r (valueOf o)) none) w
-parted t r o w e = neither (rowRefusal (entryOf t r) (fault r (valueOf o)) none) w (rw row-or at e)
-
 all-short : (ts : List ℕ) (rs : List Row) (os : List Object) → length os ≤ length ts → length os ≤ length rs
-    → ((i : ℕ) → i < length rs → getD rs i noRow .lengths < 2 ^ 29) → rowsRefusal (entries ts rs) (map valueOf os) none .number ≡ 0
+    → ((i : ℕ) → i < length rs → getD rs i noRow .lengths < 2 ^ 29) → rowsRefusal (entries ts rs) (map valueOf os) .number ≡ 0
     → (i : ℕ) → getD os i absent .length ≤ 28
 unfolding entries rowsRefusal
 all-short ts rs [] ht hr below e i = omega arith
 all-short [] rs (o ∷ os) ht hr below e i = absurd (omega arith)
 all-short (t ∷ ts) [] (o ∷ os) ht hr below e i = absurd (omega arith)
 all-short (t ∷ ts) (r ∷ rs) (o ∷ os) ht hr below e zero =
-    claim-short o (row-short t r (valueOf o) (below 0 (omega arith)) (parted t r o (rowsRefusal (entries ts rs) (map valueOf os) none) e .first))
+    claim-short o (row-short t r (valueOf o) (below 0 (omega arith)) (neither _ (rowsRefusal (entries ts rs) (map valueOf os)) e .first))
 all-short (t ∷ ts) (r ∷ rs) (o ∷ os) ht hr below e (suc i) =
-    all-short ts rs os (le-of-suc-le-suc ht) (le-of-suc-le-suc hr) (λ j h. below (suc j) (omega arith))
-    (parted t r o (rowsRefusal (entries ts rs) (map valueOf os) none) e .second) i
+    all-short ts rs os (le-of-suc-le-suc ht) (le-of-suc-le-suc hr) (λ j h. below (suc j) (omega arith)) (neither (rowRefusal (entryOf t r) (fault r (valueOf o))) _ e .second) i
 
 -- ---- a record that is not refused
 pub record Accepted (r : Record) (n : ℕ) : Type 0 where

@@ -1,3 +1,2 @@
 -- What the writer answers, and what it leaves in the buffer.
-pub mod Writing
 pub mod Storing

@@ -12,7 +12,7 @@ ghost use mathlib.Core.Path.{_≡_};
 ghost use lib.ListN.{length};
 ghost use Rattle.card.specs.Content.{contentOf};
 ghost use Rattle.card.specs.Layout.{layout};
-ghost use Rattle.writer.specs.Writing.{refusalOf, bufferAfter};
+ghost use Rattle.card.specs.Writing.{refusalOf, bufferAfter};
 ghost use Rattle.writer.specs.Storing.{Storable};
 
 // Writes a record into a buffer of 256 bytes, or says why not and leaves the buffer as it is.

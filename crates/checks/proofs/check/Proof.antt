@@ -3,7 +3,8 @@ use mathlib.Core.Path.{refl, sym, ap, _∙_}
 use Rattle.edition.specs.Rows.{formedFrom}
 use Rattle.card.specs.declared.Refusal.{Refusal}
 use Rattle.card.specs.Content.{contentOf}
-use Rattle.checks.proofs.Order.{or-pass, or-stop, bad-or, table-well, refused-size, in-order}
+use Rattle.card.proofs.Chains.{or-pass, or-stop, table-well}
+use Rattle.checks.proofs.Order.{refused-size, in-order}
 use borrow.Author.Needs.{needs}
 use Rattle.checks.proofs.check.Statement.{statement}
 use Rattle.checks.proofs.check.Tie as tie
@@ -23,7 +24,7 @@ returns-2 : tie.Need-returns-2
 returns-2 c =
     let t = c .before .before in
     let a = t .before .before .args in
-    sym (in-order (a .edition) (contentOf (a .content)) (a .size) (t .before .if1 .left) (t .refuse-edition .ensures ∙ bad-or _) refl refl refl ∙ or-stop _ _ (c .if2 .taken))
+    sym (in-order (a .edition) (contentOf (a .content)) (a .size) (t .before .if1 .left) (t .refuse-edition .ensures) refl refl refl ∙ or-stop _ _ (c .if2 .taken))
 
 check-ends-requires : tie.Need-check-ends-requires
 check-ends-requires c κs = search needs
@@ -35,14 +36,14 @@ returns-3 c =
     let t = e .before .before .before in
     let a = t .before .before .args in
     sym
-    (in-order (a .edition) (contentOf (a .content)) (a .size) (t .before .if1 .left) (t .refuse-edition .ensures ∙ bad-or _) (e .check-ends .ensures) refl refl
+    (in-order (a .edition) (contentOf (a .content)) (a .size) (t .before .if1 .left) (t .refuse-edition .ensures) (e .check-ends .ensures) refl refl
     ∙ or-pass _ _ (e .before .if2 .left) ∙ or-stop _ _ (c .if3 .taken))
 
 check-rows-requires : tie.Need-check-rows-requires
 check-rows-requires c κs =
     let e = c .before .before in
     let t = e .before .before .before in
-    table-well (formedFrom 0 (t .before .before .args .edition .rows)) (ap (λ (r : Refusal). r .number) (sym (t .refuse-edition .ensures ∙ bad-or _)) ∙ e .before .if2 .left)
+    table-well (formedFrom 0 (t .before .before .args .edition .rows)) (ap (λ (r : Refusal). r .number) (sym (t .refuse-edition .ensures)) ∙ e .before .if2 .left)
 
 returns-4 : tie.Need-returns-4
 unfolding contentOf
@@ -52,7 +53,7 @@ returns-4 c =
     let t = e .before .before .before in
     let a = t .before .before .args in
     sym
-    (in-order (a .edition) (contentOf (a .content)) (a .size) (t .before .if1 .left) (t .refuse-edition .ensures ∙ bad-or _) (e .check-ends .ensures) (r .check-rows .ensures) refl
+    (in-order (a .edition) (contentOf (a .content)) (a .size) (t .before .if1 .left) (t .refuse-edition .ensures) (e .check-ends .ensures) (r .check-rows .ensures) refl
     ∙ or-pass _ _ (e .before .if2 .left) ∙ or-pass _ _ (r .before .if3 .left) ∙ or-stop _ _ (c .if4 .taken))
 
 check-sizes-requires : tie.Need-check-sizes-requires
@@ -66,7 +67,7 @@ returns-5 c =
     let t = e .before .before .before in
     let a = t .before .before .args in
     sym
-    (in-order (a .edition) (contentOf (a .content)) (a .size) (t .before .if1 .left) (t .refuse-edition .ensures ∙ bad-or _) (e .check-ends .ensures) (r .check-rows .ensures) (c .check-sizes .ensures)
+    (in-order (a .edition) (contentOf (a .content)) (a .size) (t .before .if1 .left) (t .refuse-edition .ensures) (e .check-ends .ensures) (r .check-rows .ensures) (c .check-sizes .ensures)
     ∙ or-pass _ _ (e .before .if2 .left) ∙ or-pass _ _ (r .before .if3 .left) ∙ or-pass _ _ (c .before .if4 .left))
 
 pub check-spec : {M : Type 1} → statement M

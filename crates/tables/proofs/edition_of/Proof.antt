@@ -7,7 +7,7 @@ use Rattle.tables.proofs.edition_of.Tie as tie
 
 returns : tie.Need-returns
 unfolding lentEdition
-returns c = rw (ne-eqb _ _ (c .if1 .taken))
+returns c = rw (ne-eqb _ 102 (c .if1 .taken))
 
 rows-of-requires : tie.Need-rows-of-requires
 rows-of-requires c κs = search needs

@@ -22,7 +22,7 @@ seventeen c = sym (length-map (c .args .t1 .rows) _) ∙ c .good .0 .1 .1 .0 .1 
 
 returns : tie.Need-returns Inv-loop μ-loop
 unfolding lentTable
-returns c = rw (ne-eqb _ _ (c .if1 .taken))
+returns c = rw (ne-eqb _ 102 (c .if1 .taken))
 
 loop-holds : tie.Need-loop-holds Inv-loop μ-loop
 unfolding joined

@@ -2,7 +2,7 @@
 use mathlib.Core.Path.{_≡_, sym, ap, _∙_}
 use lib.ListN.{length, length-map}
 use Rattle.card.specs.declared.Refusal.{Refusal}
-use Rattle.writer.specs.Writing.{refusalOf}
+use Rattle.card.specs.Writing.{refusalOf}
 use Rattle.writer.proofs.Accepted.{Accepted, accepted, kept, written}
 use borrow.Author.Needs.{needs}
 use Rattle.writer.proofs.write.Statement.{statement}

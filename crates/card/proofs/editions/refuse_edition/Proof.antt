@@ -1,8 +1,8 @@
 -- `card::editions::refuse_edition` meets its contract: the answer of `formed` is the first bad row, or none. Assumes nothing.
-use mathlib.Core.Path.{_≡_, sym, _∙_}
+use mathlib.Core.Path.{_≡_, sym, ap, _∙_}
 use Rattle.edition.specs.Rows.{formedFrom}
 use Rattle.edition.proofs.Rows.{told-apart}
-use Rattle.card.specs.Refusals.{badRow}
+use Rattle.card.specs.Refusals.{refuse, badRow}
 use borrow.Author.Needs.{needs}
 use Rattle.card.proofs.editions.refuse_edition.Statement.{statement}
 use Rattle.card.proofs.editions.refuse_edition.Tie as tie
@@ -33,7 +33,7 @@ returns-2 : tie.Need-returns-2
 unfolding badRow
 returns-2 c =
     let k = c .before .before .before in
-    rw (formed-is (k .before .before) ∙ k .row .given .1, ← c .before .tag-of .ensures) (c .new .ensures)
+    c .new .ensures ∙ ap (refuse 2 0) (c .before .tag-of .ensures) ∙ sym (ap badRow (formed-is (k .before .before) ∙ k .row .given .1))
 
 pub refuse-edition-spec : {M : Type 1} → statement M
 refuse-edition-spec =

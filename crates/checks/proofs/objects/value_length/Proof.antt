@@ -7,14 +7,11 @@ use borrow.Author.Needs.{needs}
 use Rattle.checks.proofs.objects.value_length.Statement.{statement}
 use Rattle.checks.proofs.objects.value_length.Tie as tie
 
-cast-result : tie.Need-cast-result
-cast-result c = search needs
-
 held : (c : tie.Start) → length (c .args .item .bytes) ≡ 28
 held c = search needs
 
 returns : tie.Need-returns
-returns c = sym (value-long (c .before .args .item) (held (c .before)) (omega arith))
+returns c = sym (value-long (c .args .item) (held c) (omega arith))
 
 pub value-length-spec : {M : Type 1} → statement M
-value-length-spec = tie.close (tie.spec cast-result returns)
+value-length-spec = tie.close (tie.spec returns)

@@ -4,7 +4,7 @@ use native.Mathlib.Omega.{arith}
 use lib.ListN.{length}
 use Rattle.edition.proofs.Rows.{permits-most}
 use Rattle.card.specs.Content.{valueOf}
-use Rattle.checks.specs.Refusing.{rowRefusal}
+use Rattle.card.specs.Refusing.{rowRefusal}
 use Rattle.checks.proofs.Items.{value-long}
 use Rattle.checks.proofs.Faults.{fault-absent, fault-present}
 use borrow.Author.Needs.{needs}

@@ -4,16 +4,15 @@ use Prim.Native.Nat.{_-_, _≤_}
 use native.Mathlib.Omega.{arith}
 use lib.ListN.{length, length-map}
 use Rattle.card.specs.Content.{contentOf}
-use Rattle.card.specs.Refusals.{none}
 use Rattle.card.specs.Rules.{objectRows}
-use Rattle.checks.specs.Refusing.{rowsRefusal}
+use Rattle.card.specs.Refusing.{rowsRefusal}
 use Rattle.edition.proofs.Rows.{formed-within}
 use Rattle.checks.proofs.Faults.{rowsFrom, rows-start, rows-end, rows-pass, rows-stop}
 use Rattle.checks.proofs.rows.check_rows.Statement.{statement}
 use Rattle.checks.proofs.rows.check_rows.Tie as tie
 
 abbrev Inv-loop : tie.InvT-loop
-Inv-loop edition content i₀ i = (i ≤ 16) × (rowsFrom i (edition .rows) (content .objects) ≡ rowsRefusal (objectRows edition) (contentOf content .values) none)
+Inv-loop edition content i₀ i = (i ≤ 16) × (rowsFrom i (edition .rows) (content .objects) ≡ rowsRefusal (objectRows edition) (contentOf content .values))
 
 abbrev μ-loop : tie.MeasureT-loop
 μ-loop edition content i₀ i = 16 - i

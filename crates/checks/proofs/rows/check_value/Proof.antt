@@ -6,7 +6,7 @@ use lib.Seq.{length-take-le}
 use Rattle.rules.specs.Values.{judged}
 use Rattle.rules.proofs.Verdicts.{told-apart}
 use Rattle.card.specs.Content.{valueOf}
-use Rattle.checks.specs.Refusing.{rowRefusal}
+use Rattle.card.specs.Refusing.{rowRefusal}
 use Rattle.checks.proofs.Items.{value-first}
 use borrow.Author.Needs.{needs}
 use Rattle.checks.proofs.rows.check_value.Statement.{statement}

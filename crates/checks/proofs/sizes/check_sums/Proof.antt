@@ -1,50 +1,32 @@
--- `checks::sizes::check_sums` meets its contract: the names, then the town. Assumes nothing.
-use mathlib.Core.Path.{sym, _∙_}
-use borrow.Author.Tests.{not-true, not-false}
-use Rattle.card.specs.Refusals.{gate}
-use Rattle.checks.specs.Checking.{sumsRefusal}
+-- `checks::sizes::check_sums` meets its contract: where all starts are 0, every place is 0. Assumes nothing.
+use mathlib.Core.Path.{_≡_, refl, ap, _∙_}
+use mathlib.Core.List.{List}
+use Prim.Native.Nat.{ℕ, zero, suc, _-_}
+use native.Mathlib.Omega.{arith}
+use lib.ListN.{getD, replicate}
+use Rattle.card.specs.Rules.{firstPresent}
+use Rattle.card.specs.Sums.{sumsRefusal, tagBefore, nowhere}
+use Rattle.card.proofs.Starts.{sums-place}
 use borrow.Author.Needs.{needs}
 use Rattle.checks.proofs.sizes.check_sums.Statement.{statement}
 use Rattle.checks.proofs.sizes.check_sums.Tie as tie
 
-names-fit-requires : tie.Need-names-fit-requires
-names-fit-requires c κs = search needs
+lengths-of-requires : tie.Need-lengths-of-requires
+lengths-of-requires c κs = search needs
 
-refused-group-requires : tie.Need-refused-group-requires
-refused-group-requires c κs = search needs
+check-sums-requires : tie.Need-check-sums-requires
+check-sums-requires c κs = search needs
+
+zero-at : (n i : ℕ) → _≡_ {A = ℕ} (getD (replicate n 0) i 0) 0
+zero-at zero i = refl
+zero-at (suc n) zero = refl
+zero-at (suc n) (suc i) = zero-at n i
+
+no-place : (ns : List ℕ) → sumsRefusal (tagBefore (replicate 16 0)) ns ≡ sumsRefusal nowhere ns
+no-place ns = sums-place _ _ ns (λ e. omega (arith, zero-at 16 (firstPresent 6 ns))) (λ e. omega (arith, zero-at 16 (firstPresent 12 ns)))
 
 returns : tie.Need-returns
-unfolding sumsRefusal gate
-returns c = rw (sym (c .before .before .names-fit .ensures) ∙ not-true _ (c .before .if1 .taken)) (c .refused-group .ensures)
-
-town-fits-requires : tie.Need-town-fits-requires
-town-fits-requires c κs = search needs
-
-refused-group-requires-2 : tie.Need-refused-group-requires-2
-refused-group-requires-2 c κs = search needs
-
-returns-2 : tie.Need-returns-2
-unfolding sumsRefusal gate
-returns-2 c =
-    let t = c .before .before in
-    let n = t .before .before in
-    rw (sym (n .names-fit .ensures) ∙ not-false _ (t .before .if1 .left), sym (t .town-fits .ensures) ∙ not-true _ (c .before .if2 .taken)) (c .refused-group2 .ensures)
-
-returns-3 : tie.Need-returns-3
-unfolding sumsRefusal gate
-returns-3 c =
-    let t = c .before in
-    let n = t .before .before in
-    rw (sym (n .names-fit .ensures) ∙ not-false _ (t .before .if1 .left), sym (t .town-fits .ensures) ∙ not-false _ (c .if2 .left))
+returns c = c .check-sums .ensures ∙ ap (sumsRefusal (tagBefore (replicate 16 0))) (c .before .lengths-of .ensures) ∙ no-place _
 
 pub check-sums-spec : {M : Type 1} → statement M
-check-sums-spec =
-    tie.close
-    (tie.spec
-    names-fit-requires
-    refused-group-requires
-    returns
-    town-fits-requires
-    refused-group-requires-2
-    returns-2
-    returns-3)
+check-sums-spec = tie.close (tie.spec lengths-of-requires check-sums-requires returns)

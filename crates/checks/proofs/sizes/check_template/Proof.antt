@@ -1,6 +1,6 @@
 -- `checks::sizes::check_template` meets its contract, by the size of the objects. Assumes nothing.
 use Rattle.card.specs.Refusals.{gate}
-use Rattle.checks.specs.Checking.{templateRefusal}
+use Rattle.card.specs.Refusing.{templateRefusal}
 use borrow.Author.Needs.{needs}
 use Rattle.checks.proofs.sizes.check_template.Statement.{statement}
 use Rattle.checks.proofs.sizes.check_template.Tie as tie

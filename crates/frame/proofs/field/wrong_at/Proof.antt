@@ -1,6 +1,8 @@
 -- `frame::field::wrong_at` meets its contract, form by form. Assumes nothing.
+use mathlib.Core.Path.{sym, ap}
+use mathlib.Core.Bool.{Bool, cond}
 use borrow.Author.Tests.{le-leb, lt-leb}
-use Rattle.frame.specs.Frame.{fieldWrong}
+use Rattle.card.specs.Frame.{fieldWrong}
 use borrow.Author.Needs.{needs}
 use Rattle.frame.proofs.field.wrong_at.Statement.{statement}
 use Rattle.frame.proofs.field.wrong_at.Tie as tie
@@ -27,11 +29,11 @@ returns-2 c = rw (c .before .before .field .given .1, lt-leb 70 _ (c .if1 .left)
 
 returns-3 : tie.Need-returns-3
 unfolding fieldWrong
-returns-3 c = rw (c .before .before .field2 .given .1, c .if2 .taken)
+returns-3 c = rw (c .before .before .field2 .given .1) (sym (ap (λ (q : Bool). cond q 0 32) (c .if2 .taken)))
 
 returns-4 : tie.Need-returns-4
 unfolding fieldWrong
-returns-4 c = rw (c .before .before .field2 .given .1, c .if2 .left)
+returns-4 c = rw (c .before .before .field2 .given .1) (sym (ap (λ (q : Bool). cond q 0 32) (c .if2 .left)))
 
 returns-5 : tie.Need-returns-5
 unfolding fieldWrong

@@ -6,7 +6,7 @@ use native.Mathlib.Omega.{arith}
 use lib.ListN.{drop}
 use Rattle.rules.specs.Lists.{agree}
 use Rattle.card.specs.Layout.{identifier}
-use Rattle.frame.specs.Frame.{headEnd}
+use Rattle.card.specs.Frame.{headEnd}
 use Rattle.frame.proofs.Runs.{part-stops, part-passes}
 use Rattle.frame.proofs.Heads.{chip, application, body, last, behindChip, behindApplication, behindIdentifier, from-chip, over-free, over-last}
 use borrow.Author.Needs.{needs}

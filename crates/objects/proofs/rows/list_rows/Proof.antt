@@ -1,56 +1,59 @@
--- `objects::rows::list_rows` meets its contract. The loop's invariant: what is still read from row k on ends as the whole reading does.
--- Assumes nothing.
-use mathlib.Core.Path.{_≡_, refl, sym, _∙_}
-use Prim.Native.Nat.{_+_, _-_, _≤_}
+-- `objects::rows::list_rows` meets its contract. The invariant: the walk of all rows is the values so far and the walk that is left, and the table
+-- holds the places of those values. Assumes nothing.
+use mathlib.Core.Path.{_≡_, refl, sym, ap, _∙_}
+use Prim.Native.Nat.{ℕ, suc, _+_, _-_, _≤_}
 use native.Mathlib.Omega.{arith}
 use native.Mathlib.Numerals.{add-one}
 use borrow.Author.Needs.{needs}
-use lib.ListN.{length, getD, drop, replicate}
+use lib.ListN.{length, getD, drop, length-set, length-drop}
+use lib.Seq.{drop-drop}
 use denote.Ref.{now}
-use Rattle.edition.specs.Rows.{noRow}
-use Rattle.objects.specs.declared.rows.Found.the-variants.{Object}
-use Rattle.objects.specs.Objects.{readAt, listFrom}
-use Rattle.objects.proofs.Finds.{told-apart, read-inside, list-row, list-end}
+use Rattle.edition.specs.Rows.{tags, noRow}
+use Rattle.card.specs.Walk.{look, there}
+use Rattle.objects.specs.Objects.{entryOf}
+use Rattle.objects.proofs.Finds.{part-left, met-absent, met-wrong, Lies, met-there}
+use Rattle.objects.proofs.Steps.{Sofar, sofar-none, next-absent, next-there, table-is, table-wrong}
 use Rattle.objects.proofs.rows.list_rows.Statement.{statement}
 use Rattle.objects.proofs.rows.list_rows.Tie as tie
 
 abbrev Inv-loop : tie.InvT-loop
-Inv-loop image from end rows starts₀ lengths₀ k₀ at₀ starts lengths k at =
-    (at ≤ end) × (listFrom image end k (drop k rows) at starts lengths ≡ listFrom image end 0 rows from (replicate 17 0) (replicate 17 0))
+Inv-loop template from rows starts₀ lengths₀ k₀ i₀ starts lengths k i =
+    (k ≤ 16) × (i ≤ length template) × (length starts ≡ 16) × (length lengths ≡ 16) × Sofar template rows from k i starts lengths
 
 abbrev μ-loop : tie.MeasureT-loop
-μ-loop image from end rows starts₀ lengths₀ k₀ at₀ starts lengths k at = 17 - k
+μ-loop template from rows starts₀ lengths₀ k₀ i₀ starts lengths k i = 16 - k
 
 -- there are seventeen rows
 seventeen : (c : tie.Start Inv-loop μ-loop) → length (c .args .t2) ≡ 17
 seventeen c = c .good .1 .0 .1 .0 .1
 
--- what the row finds
-answered : (c : tie.After-read-object Inv-loop μ-loop) →
-    let h = c .before .before .before in
+-- what lies where the row's tag stands
+lies : (c : tie.After-known-told Inv-loop μ-loop) →
+    let h = c .before .before .before .before .before .before .before in
     let a = h .before .before .args in
-    readAt (now (a .image)) (h .loop .at) (a .end) (h .loop .k) (getD (a .t2) (h .loop .k) noRow) ≡ c .read-object .result
-answered c = sym (told-apart _ _ (c .read-object .ensures))
-
-found : (c : tie.After-known-told Inv-loop μ-loop) →
-    let g = c .before .found .given in
-    let h = c .before .before .before .before .before .before in
+    let g = c .before .start .given .0 in
+    Lies (drop (h .loop .i) (now (a .template))) (a .from + h .loop .i) (g .0) (g .1 .0)
+    (look (entryOf (h .loop .k) (getD (a .t2) (h .loop .k) noRow)) (drop (suc (h .loop .k)) tags) (a .from + h .loop .i) (drop (h .loop .i) (now (a .template))))
+lies c =
+    let h = c .before .before .before .before .before .before .before in
     let a = h .before .before .args in
-    readAt (now (a .image)) (h .loop .at) (a .end) (h .loop .k) (getD (a .t2) (h .loop .k) noRow) ≡ Object (g .0 .0) (g .0 .1 .0) (g .0 .1 .1 .0)
-found c = answered (c .before .before .before) ∙ c .before .found .given .1
+    let r = entryOf (h .loop .k) (getD (a .t2) (h .loop .k) noRow) in
+    let met = sym (c .before .before .before .meet-row .ensures) ∙ c .before .start .given .1 in
+    met-there r (drop (suc (h .loop .k)) tags) (drop (h .loop .i) (now (a .template))) (a .from + h .loop .i) _ _
+    (rw (part-left (h .loop .i) (now (a .template))) at met)
 
--- its value ends before the end
+-- its value ends within the template
 inside : (c : tie.After-known-told Inv-loop μ-loop) →
-    let g = c .before .found .given in
-    g .0 .1 .0 + g .0 .1 .1 .0 ≤ c .before .before .before .before .before .before .before .before .args .end
+    let h = c .before .before .before .before .before .before .before in
+    let g = c .before .start .given .0 in
+    (h .loop .i + 2 + g .1 .0 ≤ length (now (h .before .before .args .template))) × (g .0 ≡ h .before .before .args .from + h .loop .i + 2)
 inside c =
-    let g = c .before .found .given in
-    let h = c .before .before .before .before .before .before in
-    let a = h .before .before .args in
-    read-inside (now (a .image)) (h .loop .at) (a .end) (h .loop .k) (getD (a .t2) (h .loop .k) noRow) (g .0 .0) (g .0 .1 .0) (g .0 .1 .1 .0) (h .loop .inv .0) (found c)
+    let h = c .before .before .before .before .before .before .before in
+    let t = lies c in
+    (omega (arith, t .inside, length-drop (h .loop .i) (now (h .before .before .args .template))), t .begins)
 
 loop-holds : tie.Need-loop-holds Inv-loop μ-loop
-loop-holds c = (search needs, refl)
+loop-holds c = (search needs, search needs, refl, refl, sofar-none _ _ _)
 
 mul-row : tie.Need-mul-row Inv-loop μ-loop
 mul-row c = search needs
@@ -58,26 +61,23 @@ mul-row c = search needs
 array-copy-out-row : tie.Need-array-copy-out-row Inv-loop μ-loop
 array-copy-out-row c = search needs
 
-read-object-requires : tie.Need-read-object-requires Inv-loop μ-loop
-read-object-requires c κs = search needs
+sub-meet-row : tie.Need-sub-meet-row Inv-loop μ-loop
+sub-meet-row c = search needs
 
-enum-known-found : tie.Need-enum-known-found Inv-loop μ-loop
-enum-known-found c = search needs
+part-meet-row-start : tie.Need-part-meet-row-start Inv-loop μ-loop
+part-meet-row-start c = search needs
 
-cast-starts : tie.Need-cast-starts Inv-loop μ-loop
-cast-starts c = let w = inside c in omega arith
+part-meet-row-end : tie.Need-part-meet-row-end Inv-loop μ-loop
+part-meet-row-end c = search needs
 
-array-write-starts : tie.Need-array-write-starts Inv-loop μ-loop
-array-write-starts c = search needs
+add-meet-row : tie.Need-add-meet-row Inv-loop μ-loop
+add-meet-row c = search needs
 
-cast-lengths : tie.Need-cast-lengths Inv-loop μ-loop
-cast-lengths c = let w = inside c in omega arith
+meet-row-requires : tie.Need-meet-row-requires Inv-loop μ-loop
+meet-row-requires c κs = search needs
 
-array-write-lengths : tie.Need-array-write-lengths Inv-loop μ-loop
-array-write-lengths c = search needs
-
-add-at : tie.Need-add-at Inv-loop μ-loop
-add-at c = let w = inside c in omega arith
+enum-told : tie.Need-enum-told Inv-loop μ-loop
+enum-told c = search needs
 
 add-k : tie.Need-add-k Inv-loop μ-loop
 add-k c = search needs
@@ -89,28 +89,105 @@ loop-again : tie.Need-loop-again Inv-loop μ-loop
 loop-again c =
     let h = c .before .before .before .before .before .before in
     let a = h .before .before .args in
-    let l = seventeen (h .before .before) in
-    let f = rw (found c) at (list-row (now (a .image)) (a .end) (a .t2) (h .loop .k) (h .loop .at) (h .loop .starts) (h .loop .lengths) (omega arith)) in
-    (inside c, rw add-one (sym f ∙ h .loop .inv .1))
+    let l = h .loop in
+    let met = sym (c .before .before .meet-row .ensures) ∙ c .enum-told .given .1 in
+    let seen = met-absent (a .from + l .i) _ (rw (part-left (l .i) (now (a .template))) at met) in
+    (omega arith, l .inv .1, l .inv .2, l .inv .3, rw add-one (next-absent (now (a .template)) (a .t2) (a .from) (l .k) (l .i) (l .starts) (l .lengths) (seventeen (h .before .before)) (omega arith) (l .inv .4) seen))
 
-enum-known-found-2 : tie.Need-enum-known-found-2 Inv-loop μ-loop
-enum-known-found-2 c = search needs
+enum-known-start : tie.Need-enum-known-start Inv-loop μ-loop
+enum-known-start c = search needs
+
+cast-starts : tie.Need-cast-starts Inv-loop μ-loop
+cast-starts c = let w = inside c in let p = c .before .before .before .before .before .before .before .before .before .pre in omega (arith, w .0, w .1, p .0, p .1)
+
+array-write-starts : tie.Need-array-write-starts Inv-loop μ-loop
+array-write-starts c = search needs
+
+cast-lengths : tie.Need-cast-lengths Inv-loop μ-loop
+cast-lengths c = let w = inside c in let p = c .before .before .before .before .before .before .before .before .before .pre in omega (arith, w .0, w .1, p .0, p .1)
+
+array-write-lengths : tie.Need-array-write-lengths Inv-loop μ-loop
+array-write-lengths c = search needs
+
+add-i : tie.Need-add-i Inv-loop μ-loop
+add-i c = search needs
+
+add-i-2 : tie.Need-add-i-2 Inv-loop μ-loop
+add-i-2 c = let w = inside c in let p = c .before .before .before .before .before .before .before .before .before .pre in omega (arith, w .0, w .1, p .0, p .1)
+
+add-k-2 : tie.Need-add-k-2 Inv-loop μ-loop
+add-k-2 c = search needs
+
+loop-less-2 : tie.Need-loop-less-2 Inv-loop μ-loop
+loop-less-2 c = search needs
+
+loop-again-2 : tie.Need-loop-again-2 Inv-loop μ-loop
+loop-again-2 c =
+    let h = c .before .before .before .before .before .before .before in
+    let a = h .before .before .args in
+    let l = h .loop in
+    let s = now (a .template) in
+    let g = c .before .start .given .0 in
+    let n = g .1 .0 in
+    let t = lies c in
+    let w = inside c in
+    let place : l .i + (2 + n) ≡ l .i + 2 + n = omega arith in
+    let on : drop (2 + n) (drop (l .i) s) ≡ drop (l .i + 2 + n) s = drop-drop (2 + n) (l .i) s ∙ ap (λ (m : ℕ). drop m s) place in (
+      omega arith,
+      w .0,
+      length-set (l .starts) (l .k) _ ∙ l .inv .2,
+      length-set (l .lengths) (l .k) _ ∙ l .inv .3,
+      rw add-one
+          (next-there s (a .t2) (a .from) (l .k) (l .i) (l .starts) (l .lengths) (seventeen (h .before .before)) (omega arith) (l .inv .4) (t .v) n (g .0) (l .i + 2 + n)
+          (t .long) (t .some) (l .inv .2) (l .inv .3) (w .1) refl (t .is ∙ ap (there (t .v)) on)),
+    )
+
+enum-known-refusal : tie.Need-enum-known-refusal Inv-loop μ-loop
+enum-known-refusal c = search needs
+
+refused-requires : tie.Need-refused-requires Inv-loop μ-loop
+refused-requires c κs = search needs
 
 returns : tie.Need-returns Inv-loop μ-loop
 returns c =
-    let h = c .before .before .before .before .before .before in
+    let h = c .before .before .before .before .before .before .before .before in
     let a = h .before .before .args in
-    let l = seventeen (h .before .before) in
-    let e = answered (c .before .before .before) ∙ c .before .found2 .given .1 in
-    let f = rw e at (list-row (now (a .image)) (a .end) (a .t2) (h .loop .k) (h .loop .at) (h .loop .starts) (h .loop .lengths) (omega arith)) in
-    sym f ∙ h .loop .inv .1
+    let l = h .loop in
+    let met = sym (c .before .before .before .before .meet-row .ensures) ∙ c .before .before .refusal .given .1 in
+    let seen = met-wrong (a .from + l .i) _ _ (rw (part-left (l .i) (now (a .template))) at met) in
+    c .refused .ensures
+    ∙ sym (table-wrong (now (a .template)) (a .t2) (a .from) (l .k) (l .i) (l .starts) (l .lengths) (seventeen (h .before .before)) (omega (arith, c .before .before .before .before .before .before .before)) (l .inv .4) _ seen)
+
+array-copy-out-last : tie.Need-array-copy-out-last Inv-loop μ-loop
+array-copy-out-last c = search needs
+
+sub-refuse-last : tie.Need-sub-refuse-last Inv-loop μ-loop
+sub-refuse-last c = search needs
+
+part-refuse-last-start : tie.Need-part-refuse-last-start Inv-loop μ-loop
+part-refuse-last-start c = search needs
+
+part-refuse-last-end : tie.Need-part-refuse-last-end Inv-loop μ-loop
+part-refuse-last-end c = search needs
+
+add-refuse-last : tie.Need-add-refuse-last Inv-loop μ-loop
+add-refuse-last c = search needs
+
+refuse-last-requires : tie.Need-refuse-last-requires Inv-loop μ-loop
+refuse-last-requires c κs = search needs
+
+close-requires : tie.Need-close-requires Inv-loop μ-loop
+close-requires c κs = search needs
 
 returns-2 : tie.Need-returns-2 Inv-loop μ-loop
 returns-2 c =
-    let h = c .before in
+    let h = c .before .before .before .before .before in
     let a = h .before .before .args in
-    let l = seventeen (h .before .before) in
-    sym (list-end (now (a .image)) (a .end) (a .t2) (h .loop .k) (h .loop .at) (h .loop .starts) (h .loop .lengths) (omega arith)) ∙ h .loop .inv .1
+    let l = h .loop in
+    let s = now (a .template) in
+    let all : l .k ≡ 16 = omega arith in
+    c .close .ensures ∙ rw (c .before .refuse-last .ensures, part-left (l .i) s)
+    (sym (table-is s (a .t2) (a .from) (l .i) (l .starts) (l .lengths) (seventeen (h .before .before)) (l .inv .2) (l .inv .3) (l .inv .1) (rw all at (l .inv .4))))
 
 pub list-rows-spec : {M : Type 1} → statement M
 list-rows-spec =
@@ -121,16 +198,33 @@ list-rows-spec =
     loop-holds
     mul-row
     array-copy-out-row
-    read-object-requires
-    enum-known-found
+    sub-meet-row
+    part-meet-row-start
+    part-meet-row-end
+    add-meet-row
+    meet-row-requires
+    enum-told
+    add-k
+    loop-less
+    loop-again
+    enum-known-start
     cast-starts
     array-write-starts
     cast-lengths
     array-write-lengths
-    add-at
-    add-k
-    loop-less
-    loop-again
-    enum-known-found-2
+    add-i
+    add-i-2
+    add-k-2
+    loop-less-2
+    loop-again-2
+    enum-known-refusal
+    refused-requires
     returns
+    array-copy-out-last
+    sub-refuse-last
+    part-refuse-last-start
+    part-refuse-last-end
+    add-refuse-last
+    refuse-last-requires
+    close-requires
     returns-2)

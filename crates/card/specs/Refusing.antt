@@ -1,0 +1,46 @@
+-- What a record is refused with: 20, 2, 3, row by row 6, 7, 9, 10, then 11, then 4.
+use Prim.Native.Nat.{ℕ}
+use mathlib.Core.Bool.{_&&_}
+use mathlib.Core.List.{List, [], _∷_, map}
+use lib.ListN.{length}
+use lib.Dec.{leb}
+use Rattle.edition.specs.declared.Edition.{Edition}
+use Rattle.edition.specs.Rows.{formedFrom}
+use Rattle.card.specs.declared.Refusal.{Refusal}
+use Rattle.card.specs.Content.{Content}
+use Rattle.card.specs.Refusals.{refuse, refuseLength, none, gate, orElse, sizeRefusal, badRow}
+use Rattle.card.specs.Layout.{templateLength, objectsOf}
+use Rattle.card.specs.Rules.{Entry, objectRows, Fault, met, missing, length-out, byte-out, value-out, fault, firstAllowed, lastAllowed}
+use Rattle.card.specs.Sums.{sumsRefusal, nowhere}
+
+-- the place is 0, but with 9 the index within the value
+unfoldable pub rowRefusal : Entry → Fault → Refusal
+rowRefusal r met = none
+rowRefusal r missing = refuse 6 0 (r .tag)
+rowRefusal r length-out = refuseLength 0 (r .tag) (r .row .lengths)
+rowRefusal r (byte-out i) = refuse 9 i (r .tag)
+rowRefusal r value-out = refuse 10 0 (r .tag)
+
+-- 6, 7, 9, 10, row by row
+unfoldable pub rowsRefusal : List Entry → List (List ℕ) → Refusal
+rowsRefusal [] vs = none
+rowsRefusal (r ∷ rs) [] = orElse (rowRefusal r (fault (r .row) [])) (rowsRefusal rs [])
+rowsRefusal (r ∷ rs) (v ∷ vs) = orElse (rowRefusal r (fault (r .row) v)) (rowsRefusal rs vs)
+
+-- 3: address 0, then the last byte
+unfoldable pub endsRefusal : ℕ → ℕ → Refusal
+endsRefusal first last = gate (firstAllowed first) (refuse 3 0 0) (gate (lastAllowed first last) (refuse 3 0 0) none)
+
+-- 4: the template's length
+unfoldable pub templateRefusal : Content → Refusal
+templateRefusal c = gate (leb 70 (templateLength (objectsOf c)) && leb (templateLength (objectsOf c)) 212) (refuse 4 0 0) none
+
+-- what a content is refused with, in a buffer of n bytes
+unfoldable pub refusal : Edition → Content → ℕ → Refusal
+refusal e c n =
+    orElse (sizeRefusal 20 n)
+    (orElse (badRow (formedFrom 0 (e .rows)))
+    (orElse (endsRefusal (c .first) (c .last))
+    (orElse (rowsRefusal (objectRows e) (c .values))
+    (orElse (sumsRefusal nowhere (map length (c .values)))
+    (templateRefusal c)))))

@@ -1,0 +1,161 @@
+-- No second answer: two answers, and two buffers, that meet a public function's contract for one input are the same. Assumes nothing.
+use mathlib.Core.Path.{_≡_, sym, _∙_}
+use denote.Ref.{now}
+use Rattle.rules.proofs.Verdicts
+use Rattle.edition.proofs.Rows
+use Rattle.card.proofs.Forms
+use Rattle.edition.proofs.Edition.terminal.Reads as terminal
+use Rattle.edition.proofs.Edition.issue.Reads as issue
+use Rattle.edition.proofs.Edition.formed.Reads as formed
+use Rattle.edition.proofs.tag_of.Reads as tag-of
+use Rattle.edition.proofs.permits.Reads as permits
+use Rattle.edition.proofs.shortest.Reads as shortest
+use Rattle.edition.proofs.longest.Reads as longest
+use Rattle.rules.proofs.judge.Reads as judge
+use Rattle.card.proofs.Record.empty.Reads as empty
+use Rattle.card.proofs.Refusal.new.Reads as new
+use Rattle.card.proofs.Refusal.of_length.Reads as of-length
+use Rattle.card.proofs.Refusal.none.Reads as none
+use Rattle.card.proofs.refuse_edition.Reads as refuse-edition
+use Rattle.card.proofs.allows_first.Reads as allows-first
+use Rattle.card.proofs.allows_last.Reads as allows-last
+use Rattle.card.proofs.count_spaces.Reads as count-spaces
+use Rattle.card.proofs.checksum.Reads as checksum
+use Rattle.card.proofs.read_length.Reads as read-length
+use Rattle.card.proofs.check_sums.Reads as check-sums
+use Rattle.card.proofs.Places.refused.Reads as places-refused
+use Rattle.frame.proofs.check_front.Reads as check-front
+use Rattle.frame.proofs.count_tail.Reads as count-tail
+use Rattle.objects.proofs.list_objects.Reads as list-objects
+use Rattle.reader.proofs.places.Reads as places
+use Rattle.reader.proofs.read.Reads as read
+use Rattle.checks.proofs.check.Reads as check
+use Rattle.checks.proofs.objects_size.Reads as objects-size
+use Rattle.writer.proofs.write.Reads as write
+use Rattle.listing.proofs.list.Reads as list
+use Rattle.tables.proofs.edition_of.Reads as edition-of
+use Rattle.tables.proofs.write_table.Reads as write-table
+use Rattle.kvk.proofs.kvk_read.Reads as kvk-read
+use Rattle.kvk.proofs.kvk_write.Reads as kvk-write
+use Rattle.kvk.proofs.kvk_edition.Reads as kvk-edition
+
+-- `Post` is what a contract ensures: of the lifetimes, the arguments, the answer, and what is lent back at exit
+pub terminal-once : (κs : _) (a : _) (z y : _) (e f : _) → terminal.Post κs a z e → terminal.Post κs a y f → z ≡ y
+terminal-once κs a z y e f p q = p ∙ sym q
+
+pub issue-once : (κs : _) (a : _) (z y : _) (e f : _) → issue.Post κs a z e → issue.Post κs a y f → z ≡ y
+issue-once κs a z y e f p q = p ∙ sym q
+
+pub tag-of-once : (κs : _) (a : _) (z y : _) (e f : _) → tag-of.Post κs a z e → tag-of.Post κs a y f → z ≡ y
+tag-of-once κs a z y e f p q = p ∙ sym q
+
+pub permits-once : (κs : _) (a : _) (z y : _) (e f : _) → permits.Post κs a z e → permits.Post κs a y f → z ≡ y
+permits-once κs a z y e f p q = p ∙ sym q
+
+pub shortest-once : (κs : _) (a : _) (z y : _) (e f : _) → shortest.Post κs a z e → shortest.Post κs a y f → z ≡ y
+shortest-once κs a z y e f p q = p ∙ sym q
+
+pub longest-once : (κs : _) (a : _) (z y : _) (e f : _) → longest.Post κs a z e → longest.Post κs a y f → z ≡ y
+longest-once κs a z y e f p q = p ∙ sym q
+
+pub empty-once : (κs : _) (a : _) (z y : _) (e f : _) → empty.Post κs a z e → empty.Post κs a y f → z ≡ y
+empty-once κs a z y e f p q = p ∙ sym q
+
+pub new-once : (κs : _) (a : _) (z y : _) (e f : _) → new.Post κs a z e → new.Post κs a y f → z ≡ y
+new-once κs a z y e f p q = p ∙ sym q
+
+pub of-length-once : (κs : _) (a : _) (z y : _) (e f : _) → of-length.Post κs a z e → of-length.Post κs a y f → z ≡ y
+of-length-once κs a z y e f p q = p ∙ sym q
+
+pub none-once : (κs : _) (a : _) (z y : _) (e f : _) → none.Post κs a z e → none.Post κs a y f → z ≡ y
+none-once κs a z y e f p q = p ∙ sym q
+
+pub refuse-edition-once : (κs : _) (a : _) (z y : _) (e f : _) → refuse-edition.Post κs a z e → refuse-edition.Post κs a y f → z ≡ y
+refuse-edition-once κs a z y e f p q = p ∙ sym q
+
+pub allows-first-once : (κs : _) (a : _) (z y : _) (e f : _) → allows-first.Post κs a z e → allows-first.Post κs a y f → z ≡ y
+allows-first-once κs a z y e f p q = p ∙ sym q
+
+pub allows-last-once : (κs : _) (a : _) (z y : _) (e f : _) → allows-last.Post κs a z e → allows-last.Post κs a y f → z ≡ y
+allows-last-once κs a z y e f p q = p ∙ sym q
+
+pub count-spaces-once : (κs : _) (a : _) (z y : _) (e f : _) → count-spaces.Post κs a z e → count-spaces.Post κs a y f → z ≡ y
+count-spaces-once κs a z y e f p q = p ∙ sym q
+
+pub checksum-once : (κs : _) (a : _) (z y : _) (e f : _) → checksum.Post κs a z e → checksum.Post κs a y f → z ≡ y
+checksum-once κs a z y e f p q = p ∙ sym q
+
+pub check-sums-once : (κs : _) (a : _) (z y : _) (e f : _) → check-sums.Post κs a z e → check-sums.Post κs a y f → z ≡ y
+check-sums-once κs a z y e f p q = p ∙ sym q
+
+pub places-refused-once : (κs : _) (a : _) (z y : _) (e f : _) → places-refused.Post κs a z e → places-refused.Post κs a y f → z ≡ y
+places-refused-once κs a z y e f p q = p ∙ sym q
+
+pub count-tail-once : (κs : _) (a : _) (z y : _) (e f : _) → count-tail.Post κs a z e → count-tail.Post κs a y f → z ≡ y
+count-tail-once κs a z y e f p q = p ∙ sym q
+
+pub check-front-once : (κs : _) (a : _) (z y : _) (e f : _) → check-front.Post κs a z e → check-front.Post κs a y f → z ≡ y
+check-front-once κs a z y e f p q = p ∙ sym q
+
+-- of well-formed rows
+pub list-objects-once : (κs : _) (a : _) (z y : _) (e f : _) → list-objects.Post κs a z e → list-objects.Post κs a y f → z ≡ y
+list-objects-once κs a z y e f p q = p ∙ sym q
+
+pub places-once : (κs : _) (a : _) (z y : _) (e f : _) → places.Post κs a z e → places.Post κs a y f → z ≡ y
+places-once κs a z y e f p q = p ∙ sym q
+
+pub read-once : (κs : _) (a : _) (z y : _) (e f : _) → read.Post κs a z e → read.Post κs a y f → z ≡ y
+read-once κs a z y e f p q = p ∙ sym q
+
+pub check-once : (κs : _) (a : _) (z y : _) (e f : _) → check.Post κs a z e → check.Post κs a y f → z ≡ y
+check-once κs a z y e f p q = p ∙ sym q
+
+pub objects-size-once : (κs : _) (a : _) (z y : _) (e f : _) → objects-size.Post κs a z e → objects-size.Post κs a y f → z ≡ y
+objects-size-once κs a z y e f p q = p .1 ∙ sym (q .1)
+
+pub edition-of-once : (κs : _) (a : _) (z y : _) (e f : _) → edition-of.Post κs a z e → edition-of.Post κs a y f → z ≡ y
+edition-of-once κs a z y e f p q = p ∙ sym q
+
+-- an enum that is told alike is the same
+pub formed-once : (κs : _) (a : _) (z y : _) (e f : _) → formed.Post κs a z e → formed.Post κs a y f → z ≡ y
+formed-once κs a z y e f p q = Rows.told-apart z y (p ∙ sym q)
+
+pub judge-once : (κs : _) (a : _) (z y : _) (e f : _) → judge.Post κs a z e → judge.Post κs a y f → z ≡ y
+judge-once κs a z y e f p q = Verdicts.told-apart z y (p ∙ sym q)
+
+pub read-length-once : (κs : _) (a : _) (z y : _) (e f : _) → read-length.Post κs a z e → read-length.Post κs a y f → z ≡ y
+read-length-once κs a z y e f p q = Forms.told-apart z y (p ∙ sym q)
+
+-- an answer and a buffer
+pub write-once : (κs : _) (a : _) (z y : _) (e f : _) → write.Post κs a z e → write.Post κs a y f → z ≡ y
+write-once κs a z y e f p q = p .0 ∙ sym (q .0)
+
+pub write-buffer-once : (κs : _) (a : _) (z y : _) (e f : _) → write.Post κs a z e → write.Post κs a y f → now (e .1 .1 .0) ≡ now (f .1 .1 .0)
+write-buffer-once κs a z y e f p q = p .1 ∙ sym (q .1)
+
+pub write-table-room-once : (κs : _) (a : _) (z y : _) (e f : _) → write-table.Post κs a z e → write-table.Post κs a y f → now (e .1 .0) ≡ now (f .1 .0)
+write-table-room-once κs a z y e f p q = p ∙ sym q
+
+pub kvk-read-once : (κs : _) (a : _) (z y : _) (e f : _) → kvk-read.Post κs a z e → kvk-read.Post κs a y f → z ≡ y
+kvk-read-once κs a z y e f p q = p .0 ∙ sym (q .0)
+
+pub kvk-read-room-once : (κs : _) (a : _) (z y : _) (e f : _) → kvk-read.Post κs a z e → kvk-read.Post κs a y f → now (e .1 .1 .0) ≡ now (f .1 .1 .0)
+kvk-read-room-once κs a z y e f p q = p .1 ∙ sym (q .1)
+
+pub kvk-write-once : (κs : _) (a : _) (z y : _) (e f : _) → kvk-write.Post κs a z e → kvk-write.Post κs a y f → z ≡ y
+kvk-write-once κs a z y e f p q = p .0 ∙ sym (q .0)
+
+pub kvk-write-room-once : (κs : _) (a : _) (z y : _) (e f : _) → kvk-write.Post κs a z e → kvk-write.Post κs a y f → now (e .1 .1 .0) ≡ now (f .1 .1 .0)
+kvk-write-room-once κs a z y e f p q = p .1 ∙ sym (q .1)
+
+pub kvk-edition-once : (κs : _) (a : _) (z y : _) (e f : _) → kvk-edition.Post κs a z e → kvk-edition.Post κs a y f → z ≡ y
+kvk-edition-once κs a z y e f p q = p .0 ∙ sym (q .0)
+
+pub kvk-edition-room-once : (κs : _) (a : _) (z y : _) (e f : _) → kvk-edition.Post κs a z e → kvk-edition.Post κs a y f → now (e .1 .0) ≡ now (f .1 .0)
+kvk-edition-room-once κs a z y e f p q = p .1 ∙ sym (q .1)
+
+pub list-once : (κs : _) (a : _) (z y : _) (e f : _) → list.Post κs a z e → list.Post κs a y f → z ≡ y
+list-once κs a z y e f p q = p .0 ∙ sym (q .0)
+
+pub list-room-once : (κs : _) (a : _) (z y : _) (e f : _) → list.Post κs a z e → list.Post κs a y f → now (e .1 .1 .0) ≡ now (f .1 .1 .0)
+list-room-once κs a z y e f p q = p .1 .0 ∙ sym (q .1 .0)

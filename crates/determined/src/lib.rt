@@ -1,0 +1,1 @@
+// Theorems only: no second answer, for each public function.
