@@ -56,7 +56,33 @@ uint64_t kvk_write(const uint8_t *edition, size_t edition_len,
    answers 20 (the room is not 102 bytes) or 2 (no such edition). */
 uint64_t kvk_edition(uint64_t which, uint8_t *room, size_t room_len);
 
-/* The parts of an answer. Shortest and longest are 0 unless the number is 7. */
+/* The parts of an answer. Shortest and longest are 0 unless the number is 7.
+
+   No.  What is refused                                     Place when reading            Tag
+    0   nothing                                             0                             0
+    1   the image has not 256 bytes                         0                             0
+    2   the edition is not well formed                      0                             first bad row's
+    3   a fixed byte in 0 to 28; when writing, address 0    first such                    0
+        or the last byte
+    4   the template's tag, length form or length           30, 31 or 32                  0
+    5   a byte where a tag is due is no later row's tag     its address                   0
+    6   a required object is missing                        next tag or template's end    the object's
+    7   a length that the row does not permit               the length byte               the object's
+    8   an object reaches past the template                 the object's tag              the object's
+    9   a byte outside the rule's characters                first such                    the object's
+   10   lead, code, birth or expiry makes no sense          first value byte              the object's
+   11   names, or country, postal code and town, too long   tag of the first present      that tag
+   12   the template goes on behind the checksum            the byte behind it            0
+   13   the checksum                                        its value byte                0
+   14   the filler or the last bytes                        first wrong address           0
+   20   a record, or a room to be filled, has not its size  0                             0
+
+   When writing the place is 0, but with 9 the index within the value. 15 to 19 are not in use.
+
+   80 fund name        82 insured number    84 title          88 birth date     8C town
+   81 fund number      83 status            85 given name     89 street         8D validity
+   8F office code      90 status addition   86 name prefix    8A country        8E checksum
+                                            87 family name    8B postal code              */
 static inline unsigned kvk_number(uint64_t answer) { return (unsigned)(answer & 0xFF); }
 static inline unsigned kvk_place(uint64_t answer) { return (unsigned)(answer >> 8 & 0xFF); }
 static inline unsigned kvk_tag(uint64_t answer) { return (unsigned)(answer >> 16 & 0xFF); }

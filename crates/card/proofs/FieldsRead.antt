@@ -8,20 +8,20 @@ use lib.ListN.{length, drop, getD}
 use lib.Seq.{drop-drop, drop-cons, drop-append-add, drop-append-seam, getD-append-add}
 use lib.Dec.{leb, eqb}
 use borrow.Author.Tests.{eqb-true, le-leb, lt-leb, leb-true, leb-false}
-use Rattle.rules.proofs.Lists.{and-left, and-right}
+use Rattle.ground.proofs.Lists.{and-left, and-right}
 use Rattle.card.specs.declared.fields.LengthField.the-variants.{One, Two, Other}
-use Rattle.card.specs.Fields.{lengthField, secondByte, lengthAt, told}
+use Rattle.card.specs.Fields.{lengthField, secondByte, lengthAt, fieldTold}
 use Rattle.card.specs.Frame.{fieldWrong, fieldOf, startOf}
 
 -- the template's length as it stands on the card
 abbrev pub sizeOf : List ℕ → ℕ
-sizeOf s = told (fieldOf s) .length
+sizeOf s = fieldTold (fieldOf s) .length
 
 -- ---- a length that is written is read
 record Read (l : ℕ) (bs : List ℕ) : Type 0 where
   right : fieldWrong (lengthAt bs) ≡ 0
-  size : told (lengthAt bs) .length ≡ l
-  used : told (lengthAt bs) .used ≡ length (lengthField l)
+  size : fieldTold (lengthAt bs) .length ≡ l
+  used : fieldTold (lengthAt bs) .used ≡ length (lengthField l)
 
 read-field : (l : ℕ) (rest : List ℕ) → 70 ≤ l → l ≤ 212 → Read l (lengthField l ++ rest)
 unfolding lengthField fieldWrong
@@ -33,10 +33,10 @@ read-field l rest lo hi = go (leb l 127) refl
 
 -- ---- a length that is read was written
 record Back (bs : List ℕ) : Type 0 where
-  lo : 70 ≤ told (lengthAt bs) .length
-  hi : told (lengthAt bs) .length ≤ 212
-  used : told (lengthAt bs) .used ≡ length (lengthField (told (lengthAt bs) .length))
-  bytes : bs ≡ lengthField (told (lengthAt bs) .length) ++ drop (told (lengthAt bs) .used) bs
+  lo : 70 ≤ fieldTold (lengthAt bs) .length
+  hi : fieldTold (lengthAt bs) .length ≤ 212
+  used : fieldTold (lengthAt bs) .used ≡ length (lengthField (fieldTold (lengthAt bs) .length))
+  bytes : bs ≡ lengthField (fieldTold (lengthAt bs) .length) ++ drop (fieldTold (lengthAt bs) .used) bs
 
 passes : (q : Bool) (n : ℕ) → cond q 0 (suc n) ≡ 0 → q ≡ true
 passes true n e = refl
@@ -108,7 +108,7 @@ unfolding startOf
 field-back s n t w =
     let b : Back (drop 31 s) = back (drop 31 s) w in
     let d : drop 30 s ≡ getD s 30 0 ∷ drop 31 s = drop-cons s 30 0 (omega arith) in
-    let behind : drop (told (fieldOf s) .used) (drop 31 s) ≡ drop (startOf s) s = drop-drop (told (fieldOf s) .used) 31 s in
+    let behind : drop (fieldTold (fieldOf s) .used) (drop 31 s) ≡ drop (startOf s) s = drop-drop (fieldTold (fieldOf s) .used) 31 s in
     record {
       bytes = d ∙ cc (b .bytes);
       lo = b .lo;

@@ -7,7 +7,7 @@ use mathlib.Core.List.{List, [], _∷_}
 use lib.ListN.{length, getD}
 use Rattle.card.specs.declared.fields.LengthField.{LengthField}
 use Rattle.card.specs.declared.fields.LengthField.the-variants.{One, Two, Other, Cut}
-use Rattle.card.specs.Fields.{lengthAt, Told, told}
+use Rattle.card.specs.Fields.{lengthAt, ToldField, fieldTold}
 
 pub no-byte : (bs : List ℕ) → length bs ≡ 0 → lengthAt bs ≡ Cut
 no-byte [] n = refl
@@ -32,10 +32,10 @@ two-bytes (b ∷ []) n h = absurd (omega arith)
 two-bytes (b ∷ x ∷ bs) n h = rw h
 
 -- no two forms are told alike
-pub told-apart : (a b : LengthField) → told a ≡ told b → a ≡ b
-told-apart a b e = go a b (ap (λ (t : Told). t .number) e) (ap (λ (t : Told). t .length) e) (ap (λ (t : Told). t .used) e)
+pub told-apart : (a b : LengthField) → fieldTold a ≡ fieldTold b → a ≡ b
+told-apart a b e = go a b (ap (λ (t : ToldField). t .number) e) (ap (λ (t : ToldField). t .length) e) (ap (λ (t : ToldField). t .used) e)
   where
-    go : (a b : LengthField) → told a .number ≡ told b .number → told a .length ≡ told b .length → told a .used ≡ told b .used → a ≡ b
+    go : (a b : LengthField) → fieldTold a .number ≡ fieldTold b .number → fieldTold a .length ≡ fieldTold b .length → fieldTold a .used ≡ fieldTold b .used → a ≡ b
     go (One n) (One m) e l u = ap One l
     go (One n) (Two m) e l u = absurd (omega arith)
     go (One n) (Other m) e l u = absurd (omega arith)

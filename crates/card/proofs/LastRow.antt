@@ -8,11 +8,11 @@ use lib.ListN.{length, take, drop, getD, length-append, length-drop, take-append
 use lib.Seq.{take-at, drop-cons, getD-append-add, length-take-le}
 use lib.Pow.{pow-mono}
 use lib.Dec.{lit≤}
-use Rattle.rules.specs.Lists.{leading}
+use Rattle.ground.specs.Lists.{leading}
 use Rattle.edition.specs.Sets.{permitted}
 use Rattle.edition.specs.Rows.{tags}
 use Rattle.rules.specs.Values.{holds, judged}
-use Rattle.rules.proofs.Lists.{true-false}
+use Rattle.ground.proofs.Lists.{true-false}
 use Rattle.edition.proofs.Sets.{beyond}
 use Rattle.card.specs.Layout.{identifier, head, body, objectTags}
 use Rattle.card.specs.Rules.{Entry, RowMet, AllMet, none-left, one-more}

@@ -1,17 +1,19 @@
 -- The parts of a layout, and their lengths. Assumes nothing.
-use Prim.Native.Nat.{ℕ, _+_, _-_, _≤_}
+use Prim.Native.Nat.{ℕ, _+_, _-_, _≤_, _<_}
 use native.Mathlib.Omega.{arith}
-use mathlib.Core.Path.{_≡_, refl, sym}
+use mathlib.Core.Path.{_≡_, refl, sym, _∙_}
 use mathlib.Core.Bool.{Bool, true, false, cond}
 use mathlib.Core.List.{List, [], _∷_, _++_, append-assoc}
 use lib.ListN.{length, take, drop, replicate, length-append, length-drop, length-replicate}
-use lib.Seq.{length-take-le}
+use lib.Seq.{length-take-le, drop-cons, getD-take}
 use lib.Dec.{leb, eqb, lit≤}
 use borrow.Author.Tests.{eqb-true, eqb-false, leb-true, leb-false, le-leb, lt-leb, ne-eqb}
+use native.Mathlib.Numerals.{add-one}
+use Rattle.edition.specs.Rows.{tags, tagOf}
 use Rattle.edition.specs.declared.Edition.{Edition}
 use Rattle.card.specs.Content.{Content}
 use Rattle.card.specs.Fields.{lengthField}
-use Rattle.card.specs.Layout.{identifier, head, xorAll, templateLength, summed, template, spaces, lasts, filler, objectsOf, layout}
+use Rattle.card.specs.Layout.{body, objectTags, identifier, head, xorAll, templateLength, summed, template, spaces, lasts, filler, objectsOf, layout}
 use Rattle.card.specs.Rules.{Allowed}
 
 pub length-field : (l : ℕ) → (1 ≤ length (lengthField l)) × (length (lengthField l) ≤ 2)
@@ -28,6 +30,16 @@ length-head a f n =
     let front : length (take 11 f) ≡ 11 = length-take-le 11 f (omega arith) in
     let back : length (drop 11 f) ≡ 1 = rw (length-drop, n) in
     simp (length-append, front, back)
+
+-- ---- the tags, and the objects from the i-th on
+pub tags-next : (i : ℕ) → i < 16 → drop i objectTags ≡ tagOf i ∷ drop (i + 1) objectTags
+unfolding tags
+tags-next i h = drop-cons objectTags i 0 h ∙ rw (getD-take 16 tags i 0 h, add-one)
+
+pub body-none : (vs : List (List ℕ)) → body [] vs ≡ []
+unfolding body
+body-none [] = refl
+body-none (v ∷ vs) = refl
 
 -- ---- the template
 pub length-summed : (o : List ℕ) → length (summed o) ≡ length (lengthField (templateLength o)) + length o + 3

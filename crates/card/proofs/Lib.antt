@@ -6,7 +6,6 @@ pub mod Records
 pub mod Layouts
 pub mod Octets
 pub mod Room
-pub mod Stores
 pub mod Chains
 pub mod Walks
 pub mod Seventeen

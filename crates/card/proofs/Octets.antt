@@ -13,10 +13,10 @@ use Rattle.edition.specs.declared.Row.{Row}
 use Rattle.edition.specs.declared.Edition.{Edition}
 use Rattle.edition.specs.declared.Formed.the-variants.{Well}
 use Rattle.rules.specs.declared.values.Verdict.the-variants.{Takes}
-use Rattle.rules.specs.Lists.{among}
-use Rattle.rules.specs.Values.{within, isDigit, isText, takes, judged}
+use Rattle.ground.specs.Lists.{among}
+use Rattle.rules.specs.Values.{between, isDigit, isText, takes, judged}
 use Rattle.edition.specs.Rows.{tags, setFormed, byRule, rowFormed, formedFrom}
-use Rattle.rules.proofs.Lists.{true-false, and-left, and-right, leading-before}
+use Rattle.ground.proofs.Lists.{true-false, and-left, and-right, leading-before}
 use Rattle.rules.proofs.Verdicts.{taken-means}
 use Rattle.edition.proofs.Rows.{formed-head, row-within, permits-most}
 use Rattle.card.specs.Content.{Content}
@@ -71,7 +71,7 @@ or-below : (a c : Bool) (b : ℕ) → (a ≡ true → b < 256) → (c ≡ true �
 or-below true c b f g h = f refl
 or-below false c b f g h = g h
 
-within-below : (x y b : ℕ) → y < 256 → within x y b ≡ true → b < 256
+within-below : (x y b : ℕ) → y < 256 → between x y b ≡ true → b < 256
 within-below x y b h t = omega (arith, leb-true b y (and-right (leb x b) (leb b y) t))
 
 among-below : (b : ℕ) (ts : List ℕ) → Octets ts → among b ts ≡ true → b < 256
@@ -87,7 +87,7 @@ unfolding isText
 text-below b t =
     or-below _ (among b signs) b
     (or-below _ (among b letters) b
-    (or-below _ (within 0x61 0x7A b) b (or-below (isDigit b) (within 0x41 0x5A b) b (digit-below b) (within-below 0x41 0x5A b (lit< tt))) (within-below 0x61 0x7A b (lit< tt)))
+    (or-below _ (between 0x61 0x7A b) b (or-below (isDigit b) (between 0x41 0x5A b) b (digit-below b) (within-below 0x41 0x5A b (lit< tt))) (within-below 0x61 0x7A b (lit< tt)))
     (among-below b letters (octets-by letters refl)))
     (among-below b signs (octets-by signs refl))
     t

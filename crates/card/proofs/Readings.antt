@@ -11,7 +11,7 @@ use borrow.Author.Tests.{eqb-true}
 use Rattle.edition.specs.declared.Edition.{Edition}
 use Rattle.edition.specs.declared.Formed.the-variants.{Well}
 use Rattle.edition.specs.Rows.{tags, formedFrom}
-use Rattle.rules.proofs.Lists.{agree-same}
+use Rattle.ground.proofs.Lists.{agree-same}
 use Rattle.card.specs.Refusals.{none}
 use Rattle.card.specs.Layout.{head, body, xorAll, objectTags}
 use Rattle.card.specs.Rules.{objectRows, AllMet, firstAllowed, lastAllowed, namesFit, townFits}

@@ -9,7 +9,7 @@ use Rattle.rules.specs.declared.Rule.the-variants.{Raw}
 use Rattle.edition.specs.declared.Row.{Row}
 use Rattle.edition.specs.declared.Edition.{Edition}
 use Rattle.edition.specs.declared.Formed.the-variants.{Well}
-use Rattle.rules.specs.Lists.{distinct}
+use Rattle.ground.specs.Lists.{distinct}
 use Rattle.edition.specs.Rows.{tags, rowFormed, formedFrom}
 use Rattle.edition.proofs.Rows.{tags-distinct, formed-head, last-formed}
 use Rattle.card.specs.Layout.{body, objectTags}

@@ -10,8 +10,8 @@ use mathlib.Core.List.{List, [], _∷_, map}
 use lib.Dec.{ltb}
 use lib.ListN.{length, getD, drop, length-drop, length-map, List·getD-map, List·getD-eq-default}
 use lib.Seq.{getD-drop}
-use Rattle.rules.specs.Lists.{leading}
-use Rattle.rules.proofs.Lists.{true-false, leading-at, leading-before}
+use Rattle.ground.specs.Lists.{leading}
+use Rattle.ground.proofs.Lists.{true-false, leading-at, leading-before}
 use Rattle.card.specs.Refusals.{none, gate}
 use Rattle.card.specs.Layout.{tagAt}
 use Rattle.card.specs.Rules.{sumFits, namesFit, townFits, isZero, firstPresent}

@@ -12,12 +12,12 @@ use borrow.Author.Tests.{eqb-true, eq-eqb, ne-eqb, le-leb, leb-true, not-true}
 use Rattle.edition.specs.declared.Row.{Row}
 use Rattle.rules.specs.declared.values.Verdict.{Verdict}
 use Rattle.rules.specs.declared.values.Verdict.the-variants.{Takes, Outside, Breaks}
-use Rattle.rules.specs.Lists.{among, distinct}
+use Rattle.ground.specs.Lists.{among, distinct}
 use Rattle.edition.specs.Sets.{permitted}
 use Rattle.edition.proofs.Sets.{never-0}
 use Rattle.rules.specs.Values.{judged}
 use Rattle.rules.proofs.Verdicts.{nine-means}
-use Rattle.rules.proofs.Lists.{true-false, and-left, and-right}
+use Rattle.ground.proofs.Lists.{true-false, and-left, and-right}
 use Rattle.card.specs.declared.Refusal.{Refusal}
 use Rattle.card.specs.Refusals.{refuse, refuseLength}
 use Rattle.card.specs.Layout.{object, body}

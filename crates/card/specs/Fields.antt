@@ -19,13 +19,13 @@ lengthAt [] = Cut
 lengthAt (b ∷ bs) = cond (leb b 127) (One b) (cond (eqb b 0x81) (secondByte bs) (Other b))
 
 -- the form in numbers: the length and how many bytes it takes, or the number 4, with the byte that is no form
-pub record Told : Type 0 where
+pub record ToldField : Type 0 where
   pub number : ℕ
   pub length : ℕ
   pub used : ℕ
 
-abbrev pub told : LengthField → Told
-told (One n) = record { number = 0; length = n; used = 1 }
-told (Two n) = record { number = 0; length = n; used = 2 }
-told (Other b) = record { number = 4; length = b; used = 1 }
-told Cut = record { number = 4; length = 0; used = 0 }
+abbrev pub fieldTold : LengthField → ToldField
+fieldTold (One n) = record { number = 0; length = n; used = 1 }
+fieldTold (Two n) = record { number = 0; length = n; used = 2 }
+fieldTold (Other b) = record { number = 4; length = b; used = 1 }
+fieldTold Cut = record { number = 4; length = 0; used = 0 }

@@ -4,10 +4,10 @@ use mathlib.Core.Bool.{cond, _&&_}
 use mathlib.Core.List.{List, [], _∷_, _++_}
 use lib.Dec.{leb}
 use lib.ListN.{take, drop, getD}
-use Rattle.rules.specs.Lists.{agree}
+use Rattle.ground.specs.Lists.{agree}
 use Rattle.card.specs.declared.fields.LengthField.{LengthField}
 use Rattle.card.specs.declared.fields.LengthField.the-variants.{One, Two, Other, Cut}
-use Rattle.card.specs.Fields.{lengthAt, told}
+use Rattle.card.specs.Fields.{lengthAt, fieldTold}
 use Rattle.card.specs.Layout.{head, filler}
 
 -- the free bytes, 6 to 16 and 29
@@ -30,14 +30,14 @@ fieldOf s = lengthAt (drop 31 s)
 
 -- where the objects start, and the address behind the template
 unfoldable pub startOf : List ℕ → ℕ
-startOf s = 31 + told (fieldOf s) .used
+startOf s = 31 + fieldTold (fieldOf s) .used
 
 unfoldable pub endOf : List ℕ → ℕ
-endOf s = startOf s + told (fieldOf s) .length
+endOf s = startOf s + fieldTold (fieldOf s) .length
 
 -- the template's bytes behind the length field: the objects, that of the checksum last
 abbrev pub objectsIn : List ℕ → List ℕ
-objectsIn s = take (told (fieldOf s) .length) (drop (startOf s) s)
+objectsIn s = take (fieldTold (fieldOf s) .length) (drop (startOf s) s)
 
 -- the first address from the template's end on whose byte is not as it must be; 256 where all are
 unfoldable pub tailEnd : List ℕ → ℕ

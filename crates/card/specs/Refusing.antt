@@ -36,8 +36,8 @@ unfoldable pub templateRefusal : Content → Refusal
 templateRefusal c = gate (leb 70 (templateLength (objectsOf c)) && leb (templateLength (objectsOf c)) 212) (refuse 4 0 0) none
 
 -- what a content is refused with, in a buffer of n bytes
-unfoldable pub refusal : Edition → Content → ℕ → Refusal
-refusal e c n =
+unfoldable pub writeRefusal : Edition → Content → ℕ → Refusal
+writeRefusal e c n =
     orElse (sizeRefusal 20 n)
     (orElse (badRow (formedFrom 0 (e .rows)))
     (orElse (endsRefusal (c .first) (c .last))

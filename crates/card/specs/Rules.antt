@@ -10,7 +10,7 @@ use Rattle.edition.specs.declared.Edition.{Edition}
 use Rattle.edition.specs.declared.Formed.the-variants.{Well}
 use Rattle.rules.specs.declared.values.Verdict.{Verdict}
 use Rattle.rules.specs.declared.values.Verdict.the-variants.{Takes, Outside, Breaks}
-use Rattle.rules.specs.Lists.{leading}
+use Rattle.ground.specs.Lists.{leading}
 use Rattle.edition.specs.Sets.{permitted}
 use Rattle.rules.specs.Values.{judged}
 use Rattle.edition.specs.Rows.{formedFrom}
@@ -22,10 +22,13 @@ pub record Entry : Type 0 where
   pub tag : ℕ
   pub row : Row
 
+abbrev pub entryOf : ℕ → Row → Entry
+entryOf tag row = record { tag = tag; row = row }
+
 unfoldable pub entries : List ℕ → List Row → List Entry
 entries [] rs = []
 entries (t ∷ ts) [] = []
-entries (t ∷ ts) (r ∷ rs) = record { tag = t; row = r } ∷ entries ts rs
+entries (t ∷ ts) (r ∷ rs) = entryOf t r ∷ entries ts rs
 
 -- the rows of the sixteen objects
 abbrev pub objectRows : Edition → List Entry

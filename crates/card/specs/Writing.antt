@@ -9,11 +9,11 @@ use Rattle.card.specs.declared.Record.{Record}
 use Rattle.card.specs.declared.Refusal.{Refusal}
 use Rattle.card.specs.Content.{contentOf}
 use Rattle.card.specs.Layout.{layout}
-use Rattle.card.specs.Refusing.{refusal}
+use Rattle.card.specs.Refusing.{writeRefusal}
 
-abbrev pub refusalOf : Edition → Record → List ℕ → Refusal
-refusalOf e r buffer = refusal e (contentOf r) (length buffer)
+abbrev pub recordRefusal : Edition → Record → List ℕ → Refusal
+recordRefusal e r buffer = writeRefusal e (contentOf r) (length buffer)
 
 -- a refusal leaves the buffer unchanged; otherwise all 256 bytes are written
 unfoldable pub bufferAfter : Edition → Record → List ℕ → List ℕ
-bufferAfter e r buffer = cond (eqb (refusalOf e r buffer .number) 0) (layout (contentOf r)) buffer
+bufferAfter e r buffer = cond (eqb (recordRefusal e r buffer .number) 0) (layout (contentOf r)) buffer

@@ -1,6 +1,6 @@
 // The length field of a template or a filler.
 ghost use mathlib.Core.Path.{_≡_};
-ghost use Rattle.card.specs.Fields.{lengthAt, told};
+ghost use Rattle.card.specs.Fields.{lengthAt, fieldTold};
 
 // What stands where a length is due. The range of the length is the caller's to judge.
 pub enum LengthField {
@@ -15,7 +15,7 @@ pub enum LengthField {
 }
 
 pub fn read_length(bytes: &[u8]) -> LengthField
-    ensures { λ r. ⌜ told r ≡ told (lengthAt (now (bytes .entry))) ⌝ }
+    ensures { λ r. ⌜ fieldTold r ≡ fieldTold (lengthAt (now (bytes .entry))) ⌝ }
 {
     if bytes.len() == 0 {
         return LengthField::Cut;

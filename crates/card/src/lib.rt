@@ -1,4 +1,6 @@
-// What a card is: the record, the refusal, and the pieces that reader and writer share.
+// What a card is: record, refusal and places; the rule book stands in specs/, and here the pieces that reader and writer share.
+// Each piece answers for the part that it is lent; the order of the refusals is reader's and writer's.
+// A record may claim a length past the 28 bytes that it has: its value then goes on with zeros, and no row permits it.
 mod editions;
 mod ends;
 mod fields;
@@ -59,17 +61,19 @@ pub struct Places {
     pub lengths: [u8; 16],
 }
 
-const ABSENT: Object = Object {
-    length: 0,
-    bytes: [0; 28],
-};
+impl Object {
+    pub const ABSENT: Object = Object {
+        length: 0,
+        bytes: [0; 28],
+    };
+}
 
 impl Record {
     pub const EMPTY: Record = Record {
         first: 0,
         free: [0; 12],
         last: 0,
-        objects: [ABSENT; 16],
+        objects: [Object::ABSENT; 16],
     };
 
     pub fn empty() -> Record

@@ -20,9 +20,9 @@ use Rattle.card.specs.Layout.{objectTags}
 use Rattle.card.specs.Refusals.{none, orElse}
 use Rattle.card.specs.Rules.{entries, objectRows, met, missing, length-out, ofVerdict, fault}
 use Rattle.card.specs.Refusing.{rowRefusal, rowsRefusal}
-use Rattle.checks.specs.Checking.{entryOf}
-use Rattle.checks.specs.Checking.{absent}
-use Rattle.checks.proofs.Items.{tags-cons}
+use Rattle.card.specs.Rules.{entryOf}
+use Rattle.card.specs.Content.{noObject}
+use Rattle.card.proofs.Layouts.{tags-next}
 use Rattle.card.proofs.Chains.{or-pass, or-stop}
 
 -- ---- what is amiss with an object, by the length of its value
@@ -50,13 +50,13 @@ unfolding tags entries rowsRefusal
 rows-end rs os = refl
 
 module _ (rs : List Row) (os : List Object) (i : ℕ) (h : i < 16) (k : length rs ≡ 17) (all : length os ≡ 16) (tag : ℕ) (tagged : tag ≡ tagOf i) {told : Refusal}
-    (is : told ≡ rowRefusal (entryOf tag (getD rs i noRow)) (fault (getD rs i noRow) (valueOf (getD os i absent)))) where
+    (is : told ≡ rowRefusal (entryOf tag (getD rs i noRow)) (fault (getD rs i noRow) (valueOf (getD os i noObject)))) where
   rows-cons : rowsFrom i rs os ≡ orElse told (rowsFrom (i + 1) rs os)
   unfolding entries rowsRefusal
   rows-cons =
       let hr : i < length rs = omega arith in
       let ho : i < length os = omega arith in
-      rw (is, tagged) (simp (tags-cons i h, drop-cons rs i noRow hr, drop-cons os i absent ho, add-one))
+      rw (is, tagged) (simp (tags-next i h, drop-cons rs i noRow hr, drop-cons os i noObject ho, add-one))
 
   pub rows-pass : told .number ≡ 0 → rowsFrom (i + 1) rs os ≡ rowsFrom i rs os
   rows-pass z = sym (rows-cons ∙ or-pass told (rowsFrom (i + 1) rs os) z)

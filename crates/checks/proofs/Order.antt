@@ -5,8 +5,7 @@ use Prim.Native.Nat.{ℕ}
 use mathlib.Core.List.{map}
 use lib.ListN.{length}
 use borrow.Author.Tests.{eq-eqb, ne-eqb}
-use lib.Dec.{eqb}
-use Rattle.rules.proofs.Lists.{true-false, and-left, and-right}
+use Rattle.ground.proofs.Lists.{true-false, and-left, and-right}
 use Rattle.edition.specs.declared.Edition.{Edition}
 use Rattle.edition.specs.Rows.{formedFrom}
 use Rattle.card.specs.declared.Refusal.{Refusal}
@@ -15,7 +14,7 @@ use Rattle.card.specs.Refusals.{refuse, none, gate, orElse, badRow}
 use Rattle.card.specs.Rules.{objectRows, firstAllowed, lastAllowed}
 use Rattle.card.proofs.Chains.{or-pass}
 use Rattle.card.specs.Sums.{sumsRefusal, nowhere}
-use Rattle.card.specs.Refusing.{rowsRefusal, endsRefusal, templateRefusal, refusal}
+use Rattle.card.specs.Refusing.{rowsRefusal, endsRefusal, templateRefusal, writeRefusal}
 
 -- ---- the ends, both told alike
 pub ends-allowed : (first last : ℕ) → (firstAllowed first && lastAllowed first last) ≡ true → endsRefusal first last ≡ none
@@ -32,12 +31,12 @@ ends-refused first last e = go (firstAllowed first) (lastAllowed first last) e
     go false q z = refl
 
 -- ---- the whole
-pub refused-size : (e : Edition) (c : Content) (n : ℕ) → (n ≡ 256 → ⊥) → refusal e c n ≡ refuse 20 0 0
-unfolding refusal gate orElse
+pub refused-size : (e : Edition) (c : Content) (n : ℕ) → (n ≡ 256 → ⊥) → writeRefusal e c n ≡ refuse 20 0 0
+unfolding writeRefusal gate orElse
 refused-size e c n h = rw (ne-eqb n 256 h)
 
 -- in a buffer of 256 bytes: the table, the ends, the rows, the sums, the template
 pub in-order : (e : Edition) (c : Content) (n : ℕ) {table ends rows sizes : Refusal} → n ≡ 256 → table ≡ badRow (formedFrom 0 (e .rows)) → ends ≡ endsRefusal (c .first) (c .last)
-    → rows ≡ rowsRefusal (objectRows e) (c .values) → sizes ≡ orElse (sumsRefusal nowhere (map length (c .values))) (templateRefusal c) → refusal e c n ≡ orElse table (orElse ends (orElse rows sizes))
-unfolding refusal gate
+    → rows ≡ rowsRefusal (objectRows e) (c .values) → sizes ≡ orElse (sumsRefusal nowhere (map length (c .values))) (templateRefusal c) → writeRefusal e c n ≡ orElse table (orElse ends (orElse rows sizes))
+unfolding writeRefusal gate
 in-order e c n h et ee er es = rw (eq-eqb n 256 h, et, ee, er, es) (or-pass none _ refl)

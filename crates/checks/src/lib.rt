@@ -1,16 +1,18 @@
-// What is refused of a record before the first byte is written.
-mod objects;
-mod refusals;
+// What is refused of a record before the first byte is written, in the document's order.
+// Any edition, record and buffer size may be asked about. Writing is the writer's.
+// 11 is told before 4 here and behind the objects when reading: a record has no places, so its place is 0.
+mod chain;
 mod rows;
 mod sizes;
+mod space;
 
 use card::Record;
 use card::Refusal;
 use edition::Edition;
-pub use objects::objects_size;
+pub use space::objects_size;
 ghost use mathlib.Core.Path.{_≡_};
 ghost use Rattle.card.specs.Content.{contentOf};
-ghost use Rattle.card.specs.Refusing.{endsRefusal, refusal};
+ghost use Rattle.card.specs.Refusing.{endsRefusal, writeRefusal};
 
 // 3: address 0 and the last byte.
 fn check_ends(first: u8, last: u8) -> Refusal
@@ -25,7 +27,7 @@ fn check_ends(first: u8, last: u8) -> Refusal
 
 // The first refusal of a record, in a buffer of `size` bytes.
 pub fn check(edition: Edition, content: Record, size: usize) -> Refusal
-    ensures { λ r. ⌜ r ≡ refusal edition (contentOf content) size ⌝ }
+    ensures { λ r. ⌜ r ≡ writeRefusal edition (contentOf content) size ⌝ }
 {
     if size != 256 {
         return Refusal::new(20, 0, 0);

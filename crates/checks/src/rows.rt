@@ -13,7 +13,7 @@ ghost use Rattle.rules.specs.Values.{judged};
 ghost use Rattle.card.specs.Content.{valueOf, contentOf};
 ghost use Rattle.card.specs.Rules.{ofVerdict, fault, objectRows};
 ghost use Rattle.card.specs.Refusing.{rowRefusal, rowsRefusal};
-ghost use Rattle.checks.specs.Checking.{entryOf};
+ghost use Rattle.card.specs.Rules.{entryOf};
 
 // 9 and 10: what the row's rule says of a value.
 fn check_value(row: Row, tag: u8, item: Object) -> Refusal

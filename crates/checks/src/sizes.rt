@@ -1,6 +1,6 @@
 // How long the objects may be together.
-use crate::objects;
-use crate::refusals;
+use crate::chain;
+use crate::space;
 use card::Record;
 use card::Refusal;
 ghost use mathlib.Core.Path.{_≡_};
@@ -20,7 +20,7 @@ fn lengths_of(content: Record) -> [u8; 16]
     let mut i = 0;
     while i < 16 {
         let item = content.objects[i];
-        lengths[i] = objects::value_length(item);
+        lengths[i] = space::value_length(item);
         i += 1;
     }
     lengths
@@ -38,7 +38,7 @@ fn check_sums(content: Record) -> Refusal
 fn check_template(content: Record) -> Refusal
     ensures { λ r. ⌜ r ≡ templateRefusal (contentOf content) ⌝ }
 {
-    let length = objects::objects_size(content) + 3;
+    let length = space::objects_size(content) + 3;
     if (length >= 70) & (length <= 212) {
         Refusal::NONE
     } else {
@@ -52,5 +52,5 @@ pub(crate) fn check_sizes(content: Record) -> Refusal
 {
     let sums = check_sums(content);
     let template = check_template(content);
-    refusals::first_of(sums, template)
+    chain::first_of(sums, template)
 }

@@ -2,21 +2,16 @@
 use crate::cases;
 use libc::STDOUT_FILENO;
 ghost use mathlib.Core.Path.{_≡_};
-ghost use Prim.Native.Nat.{_<_, _≤_};
+ghost use Prim.Native.Nat.{_≤_};
 ghost use lib.ListN.{length};
-
-fn hex_digit(n: u8) -> u8
-    requires { ⌜ n < 16 ⌝ }
-{
-    if n < 10 { b'0' + n } else { b'A' - 10 + n }
-}
 
 // Writes each byte as two capital hex digits.
 pub(crate) fn write_hex(bytes: &[u8]) {
     let mut i = 0;
     while i < bytes.len() {
-        let byte = bytes[i];
-        io::write_all(STDOUT_FILENO, &[hex_digit(byte / 16), hex_digit(byte % 16)]);
+        let mut digits = [0u8; 2];
+        ground::put_hex(&mut digits, 0, bytes[i]);
+        io::write_all(STDOUT_FILENO, &digits);
         i += 1;
     }
 }

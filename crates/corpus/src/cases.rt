@@ -11,12 +11,9 @@ pub(crate) fn get(room: &mut [u8]) -> bool {
     io::read_full(STDIN_FILENO, room) == room.len()
 }
 
+// Fills all of a room with one byte.
 pub(crate) fn fill(room: &mut [u8], byte: u8) {
-    let mut i = 0;
-    while i < room.len() {
-        room[i] = byte;
-        i += 1;
-    }
+    ground::fill(room, 0, room.len(), byte);
 }
 
 pub(crate) fn is_filled(room: &[u8], byte: u8) -> bool {

@@ -1,5 +1,6 @@
-// Runs the cases on standard input through reader and writer and writes the answers. A case that is cut off or
-// malformed ends the run.
+// Runs the cases on standard input through the calls of the C interface and writes an answer line for each.
+// Which cases, and what their answers should be, is the second program's: `second cases` and `second answer`.
+// A case that is cut off or malformed ends the run with the line END.
 mod answers;
 mod cases;
 

@@ -18,8 +18,8 @@ use Rattle.card.proofs.Records.{content-back}
 use Rattle.card.specs.declared.Reading.{Reading}
 use Rattle.card.specs.Frame.{startOf}
 use Rattle.card.specs.Reading.{Answer, accepted, refused, answer, answerOf, reading}
-use Rattle.card.specs.Refusing.{refusal}
-use Rattle.card.specs.Writing.{refusalOf, bufferAfter}
+use Rattle.card.specs.Refusing.{writeRefusal}
+use Rattle.card.specs.Writing.{recordRefusal, bufferAfter}
 use Rattle.demands.specs.Nested.{Nested, FirstUnmet}
 use Rattle.demands.specs.Demands.{Accepts, Refuses, LentEdition, LentRecord, ReadingSays, Demand1, Demand2, InnerReads, same, first, Demand3, Demands, libraryReader, libraryWriter}
 use Rattle.demands.proofs.Accepts.{reads}
@@ -59,7 +59,7 @@ demand1 = record {
   read-says = λ e s n. says e s n (answer e s) refl;
   read-empty = λ e s. empty (answer e s);
   write-says = λ e r b n l h. writing-says e (contentOf r) (length b) n (length-map (r .objects) valueOf ∙ l .objects) (λ z. h (zero-is-none e (contentOf r) (length b) z));
-  write-leaves = λ e r b h. leaves e r b (eqb (refusalOf e r b .number) 0) refl h;
+  write-leaves = λ e r b h. leaves e r b (eqb (recordRefusal e r b .number) 0) refl h;
 }
   where
     says : (e : Edition) (s : List ℕ) → LentEdition e → (a : Answer) → answer e s ≡ a → Refuses libraryReader e s → ReadingSays e (answerOf a .refusal)
@@ -70,7 +70,7 @@ demand1 = record {
     empty (accepted c) h = absurd (h refl)
     empty (refused x) h = refl
 
-    leaves : (e : Edition) (r : Record) (b : List ℕ) (q : Bool) → eqb (refusalOf e r b .number) 0 ≡ q → (refusalOf e r b ≡ none → ⊥) → cond q (layout (contentOf r)) b ≡ b
+    leaves : (e : Edition) (r : Record) (b : List ℕ) (q : Bool) → eqb (recordRefusal e r b .number) 0 ≡ q → (recordRefusal e r b ≡ none → ⊥) → cond q (layout (contentOf r)) b ≡ b
     leaves e r b true t h = absurd (h (zero-is-none e (contentOf r) (length b) (eqb-true _ _ t)))
     leaves e r b false t h = refl
 
@@ -94,7 +94,7 @@ second = record {
     met : (e : Edition) (s : List ℕ) → LentEdition e → Meets e s → Accepts libraryReader e s
     met e s n m = accepted-accepts e s (m .content) (reads e s (m .content) n .1 (m .allowed, m .drawn))
 
-    allowed : (e : Edition) (r : Record) (b : List ℕ) → LentEdition e → LentRecord r → refusalOf e r b ≡ none → Allowed e (contentOf r) × (length b ≡ 256)
+    allowed : (e : Edition) (r : Record) (b : List ℕ) → LentEdition e → LentRecord r → recordRefusal e r b ≡ none → Allowed e (contentOf r) × (length b ≡ 256)
     allowed e r b n l z =
         let w = written-in e (contentOf r) (length b) (ap (λ (x : Refusal). x .number) z) (l .free) (length-map (r .objects) valueOf ∙ l .objects) n in
         (w .1, w .0)
@@ -103,11 +103,11 @@ second = record {
         → libraryWriter e (reading e s .content) b ≡ record { refusal = none; buffer = s }
     back e s b n size h =
         let a = accepting e s h in
-        let w : refusal e (a .0) 256 ≡ none = write-after-read e s (a .0) n (a .1) .0 in
-        let r : refusalOf e (recordOf (a .0)) b ≡ none = rw (content-back, size) w in
+        let w : writeRefusal e (a .0) 256 ≡ none = write-after-read e s (a .0) n (a .1) .0 in
+        let r : recordRefusal e (recordOf (a .0)) b ≡ none = rw (content-back, size) w in
         rw (accepted-content e s (a .0) (a .1), r, buffer-after-read e s b (a .0) n size (a .1))
 
-    forth : (e : Edition) (r : Record) (b : List ℕ) → LentEdition e → LentRecord r → refusalOf e r b ≡ none
+    forth : (e : Edition) (r : Record) (b : List ℕ) → LentEdition e → LentRecord r → recordRefusal e r b ≡ none
         → Accepts libraryReader e (bufferAfter e r b) × (contentOf (reading e (bufferAfter e r b) .content) ≡ contentOf r)
     forth e r b n l z =
         let a : answer e (bufferAfter e r b) ≡ accepted (contentOf r) = read-buffer-after e r b n (l .free) (l .objects) (ap (λ (x : Refusal). x .number) z) in
@@ -146,7 +146,7 @@ module _ (i o : Edition) (li : LentEdition i) (lo : LentEdition o) (n : Nested i
   written : (e : Edition) (r : Record) (b : List ℕ) → Allowed e (contentOf r) → length b ≡ 256 → libraryWriter e r b ≡ record { refusal = none; buffer = layout (contentOf r) }
   unfolding bufferAfter
   written e r b a size =
-      let w : refusalOf e r b ≡ none = rw size (allowed-written e (contentOf r) a) in
+      let w : recordRefusal e r b ≡ none = rw size (allowed-written e (contentOf r) a) in
       rw w
 
   writes : (r : Record) (b : List ℕ) → LentRecord r → Allowed i (contentOf r) → length b ≡ 256

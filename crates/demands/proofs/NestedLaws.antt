@@ -9,7 +9,7 @@ use lib.ListN.{length}
 use Rattle.edition.specs.declared.Row.{Row}
 use Rattle.edition.specs.declared.Edition.{Edition}
 use Rattle.edition.specs.declared.Formed.the-variants.{Well}
-use Rattle.rules.specs.Lists.{among}
+use Rattle.ground.specs.Lists.{among}
 use Rattle.edition.specs.Rows.{tags, formedFrom}
 use Rattle.card.specs.declared.Refusal.{Refusal}
 use Rattle.card.specs.Content.{Content}
@@ -19,7 +19,7 @@ use Rattle.card.specs.Walk.{Walked, stopped, faultAt, push, walk}
 use Rattle.card.specs.Frame.{startOf, objectsIn}
 use Rattle.card.specs.Reading.{accepted, refused, answer}
 use Rattle.card.proofs.Chains.{answer-by, stopped-first}
-use Rattle.rules.proofs.Lists.{true-false}
+use Rattle.ground.proofs.Lists.{true-false}
 use Rattle.demands.specs.Nested.{Within, NestedRows, no-rows, one-row, Nested, FirstUnmet, here, later}
 use Rattle.card.proofs.Walks.{unlessMet, appraise, fault-met, met-fault}
 use Rattle.card.proofs.Seventeen.{withEight, Table, table-of, walk-values}

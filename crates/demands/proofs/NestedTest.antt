@@ -18,7 +18,7 @@ use Rattle.edition.specs.Sets.{permitted}
 use Rattle.rules.specs.Values.{isDigit, isText, byClass, takes, isLead, isCode, isBirth, isExpiry, two, bySense, holds, judged}
 use Rattle.edition.specs.Rows.{setFormed, formedFrom}
 use Rattle.edition.specs.Tables.{terminal, issue}
-use Rattle.rules.proofs.Lists.{true-false, and-left, and-right, leading-wider}
+use Rattle.ground.proofs.Lists.{true-false, and-left, and-right, leading-wider}
 use Rattle.edition.proofs.Sets.{beyond}
 use Rattle.rules.proofs.Verdicts.{taken-means, means-taken}
 use Rattle.edition.proofs.Shipped.{terminal-formed, issue-formed}

@@ -11,8 +11,8 @@ use Rattle.edition.specs.declared.Row.{Row}
 use Rattle.edition.specs.declared.Edition.{Edition}
 use Rattle.edition.specs.declared.Formed.{Formed}
 use Rattle.edition.specs.declared.Formed.the-variants.{Well, Bad}
-use Rattle.rules.specs.Lists.{among}
-use Rattle.rules.proofs.Lists.{agree-within, leading-most, among-more, among-front}
+use Rattle.ground.specs.Lists.{among}
+use Rattle.ground.proofs.Lists.{agree-within, leading-most, among-more, among-front}
 use Rattle.edition.specs.Rows.{tags, tagOf, noRow, formedFrom}
 use Rattle.edition.proofs.Rows.{bad-below}
 use Rattle.card.specs.declared.Refusal.{Refusal}

@@ -8,7 +8,7 @@ use lib.ListN.{length, length-map}
 use lib.Dec.{leb}
 use borrow.Author.Tests.{eqb-true, leb-true, le-leb}
 use Rattle.edition.specs.declared.Edition.{Edition}
-use Rattle.rules.proofs.Lists.{and-left, and-right}
+use Rattle.ground.proofs.Lists.{and-left, and-right}
 use Rattle.card.specs.declared.Record.{Record}
 use Rattle.card.specs.Content.{Content, valueOf, contentOf, recordOf}
 use Rattle.card.specs.Refusals.{none, gate, orElse, badRow}
@@ -18,8 +18,8 @@ use Rattle.card.proofs.Records.{content-back}
 use Rattle.card.proofs.Chains.{neither, gate-in, table-well}
 use Rattle.card.specs.Reading.{accepted, answer}
 use Rattle.card.specs.Sums.{sumsRefusal}
-use Rattle.card.specs.Refusing.{rowRefusal, rowsRefusal, endsRefusal, templateRefusal, refusal}
-use Rattle.card.specs.Writing.{refusalOf, bufferAfter}
+use Rattle.card.specs.Refusing.{rowRefusal, rowsRefusal, endsRefusal, templateRefusal, writeRefusal}
+use Rattle.card.specs.Writing.{recordRefusal, bufferAfter}
 use Rattle.card.proofs.Walks.{fault-met, met-fault}
 use Rattle.card.proofs.Seventeen.{table-of}
 use Rattle.demands.proofs.ReadSound.{read-sound}
@@ -52,8 +52,8 @@ rows-out (one-more {r} {v} m a) = rw (fault-met (r .row) v m, rows-out a)
 abbrev fits : Content → Bool
 fits c = leb 70 (templateLength (objectsOf c)) && leb (templateLength (objectsOf c)) 212
 
-pub written-in : (e : Edition) (c : Content) (n : ℕ) → refusal e c n .number ≡ 0 → length (c .free) ≡ 12 → length (c .values) ≡ 16 → length (e .rows) ≡ 17 → (n ≡ 256) × Allowed e c
-unfolding refusal endsRefusal sumsRefusal templateRefusal
+pub written-in : (e : Edition) (c : Content) (n : ℕ) → writeRefusal e c n .number ≡ 0 → length (c .free) ≡ 12 → length (c .values) ≡ 16 → length (e .rows) ≡ 17 → (n ≡ 256) × Allowed e c
+unfolding writeRefusal endsRefusal sumsRefusal templateRefusal
 written-in e c n z free values rows =
     let n1 = neither _ _ z in
     let n2 = neither _ _ (n1 .second) in
@@ -81,24 +81,24 @@ written-in e c n z free values rows =
       },
     )
 
-pub written-allowed : (e : Edition) (c : Content) → refusal e c 256 .number ≡ 0 → length (c .free) ≡ 12 → length (c .values) ≡ 16 → length (e .rows) ≡ 17 → Allowed e c
+pub written-allowed : (e : Edition) (c : Content) → writeRefusal e c 256 .number ≡ 0 → length (c .free) ≡ 12 → length (c .values) ≡ 16 → length (e .rows) ≡ 17 → Allowed e c
 written-allowed e c z free values rows = written-in e c 256 z free values rows .1
 
-pub allowed-written : (e : Edition) (c : Content) → Allowed e c → refusal e c 256 ≡ none
-unfolding refusal gate orElse badRow endsRefusal sumsRefusal templateRefusal
+pub allowed-written : (e : Edition) (c : Content) → Allowed e c → writeRefusal e c 256 ≡ none
+unfolding writeRefusal gate orElse badRow endsRefusal sumsRefusal templateRefusal
 allowed-written e c m =
     rw (m .formed, m .first, m .last, rows-out (m .rows), m .names, m .town, le-leb 70 _ (m .least), le-leb _ 212 (m .most))
 
 -- ---- the round trips, of contents
 -- what was read is written as it stood
-pub write-after-read : (e : Edition) (s : List ℕ) (c : Content) → length (e .rows) ≡ 17 → answer e s ≡ accepted c → (refusal e c 256 ≡ none) × (layout c ≡ s)
+pub write-after-read : (e : Edition) (s : List ℕ) (c : Content) → length (e .rows) ≡ 17 → answer e s ≡ accepted c → (writeRefusal e c 256 ≡ none) × (layout c ≡ s)
 write-after-read e s c n a =
     let m : Allowed e c × (layout c ≡ s) = read-sound e s c n a in
     (allowed-written e c (m .0), m .1)
 
 -- what was written is read
 pub read-after-write : (e : Edition) (c : Content) → length (e .rows) ≡ 17 → length (c .free) ≡ 12 → length (c .values) ≡ 16
-    → refusal e c 256 .number ≡ 0 → answer e (layout c) ≡ accepted c
+    → writeRefusal e c 256 .number ≡ 0 → answer e (layout c) ≡ accepted c
 read-after-write e c n free values z = read-complete e (layout c) c n (written-allowed e c z free values n) refl
 
 -- ---- the round trips, of records and buffers
@@ -106,11 +106,11 @@ pub buffer-after-read : (e : Edition) (s buffer : List ℕ) (c : Content) → le
     → bufferAfter e (recordOf c) buffer ≡ s
 unfolding bufferAfter
 buffer-after-read e s buffer c n size a =
-    let w : (refusal e c 256 ≡ none) × (layout c ≡ s) = write-after-read e s c n a in
+    let w : (writeRefusal e c 256 ≡ none) × (layout c ≡ s) = write-after-read e s c n a in
     rw (content-back, size, w .0) (w .1)
 
 pub read-buffer-after : (e : Edition) (r : Record) (buffer : List ℕ) → length (e .rows) ≡ 17 → length (r .free) ≡ 12 → length (r .objects) ≡ 16
-    → refusalOf e r buffer .number ≡ 0 → answer e (bufferAfter e r buffer) ≡ accepted (contentOf r)
+    → recordRefusal e r buffer .number ≡ 0 → answer e (bufferAfter e r buffer) ≡ accepted (contentOf r)
 unfolding bufferAfter contentOf
 read-buffer-after e r buffer n free objects z =
     let w = written-in e (contentOf r) (length buffer) z free (length-map (r .objects) valueOf ∙ objects) n in

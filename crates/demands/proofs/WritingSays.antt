@@ -15,9 +15,9 @@ use Rattle.edition.specs.declared.Formed.{Formed}
 use Rattle.edition.specs.declared.Formed.the-variants.{Well, Bad}
 use Rattle.rules.specs.declared.values.Verdict.{Verdict}
 use Rattle.rules.specs.declared.values.Verdict.the-variants.{Takes, Outside, Breaks}
-use Rattle.rules.specs.Lists.{among}
+use Rattle.ground.specs.Lists.{among}
 use Rattle.rules.specs.Values.{judged}
-use Rattle.rules.proofs.Lists.{leading-most}
+use Rattle.ground.proofs.Lists.{leading-most}
 use Rattle.rules.proofs.Verdicts.{nine-means}
 use Rattle.edition.specs.Sets.{permitted}
 use Rattle.edition.specs.Rows.{tags, tagOf, noRow, formedFrom}
@@ -30,8 +30,8 @@ use Rattle.card.specs.Refusals.{refuse, none, gate, orElse, badRow}
 use Rattle.card.specs.Layout.{objectTags}
 use Rattle.card.specs.Rules.{Entry, entries, objectRows, Fault, met, missing, length-out, byte-out, value-out, ofVerdict, fault, isZero, firstPresent}
 use Rattle.card.specs.Sums.{sumsRefusal}
-use Rattle.card.specs.Refusing.{rowRefusal, rowsRefusal, endsRefusal, templateRefusal, refusal}
-use Rattle.card.specs.Writing.{refusalOf}
+use Rattle.card.specs.Refusing.{rowRefusal, rowsRefusal, endsRefusal, templateRefusal, writeRefusal}
+use Rattle.card.specs.Writing.{recordRefusal}
 use Rattle.card.proofs.Chains.{or-keeps, gate-after}
 use Rattle.demands.specs.Demands.{LentEdition, WritingSays, no-row, of-row, of-length, of-byte}
 
@@ -142,8 +142,8 @@ first-most k vs h n =
     let l = length-map vs length in
     omega arith
 
-pub writing-says : (e : Edition) (c : Content) (n : ℕ) → LentEdition e → length (c .values) ≡ 16 → Says e c (refusal e c n)
-unfolding refusal endsRefusal sumsRefusal templateRefusal among
+pub writing-says : (e : Edition) (c : Content) (n : ℕ) → LentEdition e → length (c .values) ≡ 16 → Says e c (writeRefusal e c n)
+unfolding writeRefusal endsRefusal sumsRefusal templateRefusal among
 writing-says e c n l many =
     or-keeps (Says e c) _ _ (gate-after (Says e c) _ _ _ (λ z some. no-row 20 refl) (λ z. nothing e c))
     (or-keeps (Says e c) _ _ (bad-says e c _ l refl)
@@ -180,8 +180,8 @@ rows-zero (r ∷ rs) (v ∷ vs) = or-keeps ZeroNone _ _ (row-zero r (fault (r .r
 some-zero : (number tag : ℕ) → (number ≡ 0 → ⊥) → ZeroNone (refuse number 0 tag)
 some-zero number tag h = λ z. absurd (h z)
 
-pub zero-is-none : (e : Edition) (c : Content) (n : ℕ) → refusal e c n .number ≡ 0 → refusal e c n ≡ none
-unfolding refusal endsRefusal sumsRefusal templateRefusal
+pub zero-is-none : (e : Edition) (c : Content) (n : ℕ) → writeRefusal e c n .number ≡ 0 → writeRefusal e c n ≡ none
+unfolding writeRefusal endsRefusal sumsRefusal templateRefusal
 zero-is-none e c n =
     or-keeps ZeroNone _ _ (link _ _ _ (some-zero 20 0 (omega arith)) (λ z. refl))
     (or-keeps ZeroNone _ _ (bad-zero _)
@@ -208,13 +208,13 @@ written-place e c x h (of-byte i k l b) = omega (arith, h k)
 abbrev noObject : Object
 noObject = record { length = 0; bytes = [] }
 
-pub every-written-place : (e : Edition) (r : Record) (b : List ℕ) → LentEdition e → length (r .objects) ≡ 16 → ((k : ℕ) → getD (r .objects) k noObject .length ≤ 255) → refusalOf e r b .place < 256
+pub every-written-place : (e : Edition) (r : Record) (b : List ℕ) → LentEdition e → length (r .objects) ≡ 16 → ((k : ℕ) → getD (r .objects) k noObject .length ≤ 255) → recordRefusal e r b .place < 256
 unfolding contentOf valueOf
-every-written-place e r b n many h = go (eqb (refusalOf e r b .number) 0) refl
+every-written-place e r b n many h = go (eqb (recordRefusal e r b .number) 0) refl
   where
     short : (k : ℕ) → length (getD (contentOf r .values) k []) ≤ 255
     short k = rw (List·getD-map valueOf (r .objects) k noObject) (claimed (getD (r .objects) k noObject) (h k))
 
-    go : (q : Bool) → eqb (refusalOf e r b .number) 0 ≡ q → refusalOf e r b .place < 256
+    go : (q : Bool) → eqb (recordRefusal e r b .number) 0 ≡ q → recordRefusal e r b .place < 256
     go true z = rw (zero-is-none e (contentOf r) (length b) (eqb-true _ _ z)) (omega arith)
     go false z = written-place e (contentOf r) _ short (writing-says e (contentOf r) (length b) n (length-map (r .objects) valueOf ∙ many) (eqb-false _ _ z))

@@ -6,7 +6,7 @@ use mathlib.Core.Bool.{true}
 use mathlib.Core.List.{List, [], _∷_}
 use lib.ListN.{length, getD}
 use Rattle.edition.specs.declared.Edition.{Edition}
-use Rattle.rules.specs.Lists.{among}
+use Rattle.ground.specs.Lists.{among}
 use Rattle.edition.specs.Rows.{tagOf, noRow}
 use Rattle.card.specs.declared.Record.{Record}
 use Rattle.card.specs.declared.Refusal.{Refusal}
@@ -16,7 +16,7 @@ use Rattle.card.specs.Refusals.{refuse, refuseLength, none}
 use Rattle.card.specs.Layout.{objectsAt, layout}
 use Rattle.card.specs.Rules.{objectRows, AllMet, Allowed, Meets}
 use Rattle.card.specs.Reading.{reading}
-use Rattle.card.specs.Writing.{refusalOf, bufferAfter}
+use Rattle.card.specs.Writing.{recordRefusal, bufferAfter}
 use Rattle.demands.specs.Nested.{Nested, FirstUnmet}
 
 abbrev pub Reader : Type 0
@@ -103,4 +103,4 @@ abbrev pub libraryReader : Reader
 libraryReader = reading
 
 abbrev pub libraryWriter : Writer
-libraryWriter e r b = record { refusal = refusalOf e r b; buffer = bufferAfter e r b }
+libraryWriter e r b = record { refusal = recordRefusal e r b; buffer = bufferAfter e r b }

@@ -4,6 +4,14 @@ use denote.Ref.{now}
 use Rattle.rules.proofs.Verdicts
 use Rattle.edition.proofs.Rows
 use Rattle.card.proofs.Forms
+use Rattle.ground.proofs.byte_at.Reads as byte-at
+use Rattle.ground.proofs.count_same.Reads as count-same
+use Rattle.ground.proofs.is_same.Reads as is-same
+use Rattle.ground.proofs.put.Reads as put
+use Rattle.ground.proofs.put_byte.Reads as put-byte
+use Rattle.ground.proofs.fill.Reads as fill
+use Rattle.ground.proofs.put_hex.Reads as put-hex
+use Rattle.ground.proofs.put_decimal.Reads as put-decimal
 use Rattle.edition.proofs.Edition.terminal.Reads as terminal
 use Rattle.edition.proofs.Edition.issue.Reads as issue
 use Rattle.edition.proofs.Edition.formed.Reads as formed
@@ -33,13 +41,25 @@ use Rattle.checks.proofs.check.Reads as check
 use Rattle.checks.proofs.objects_size.Reads as objects-size
 use Rattle.writer.proofs.write.Reads as write
 use Rattle.listing.proofs.list.Reads as list
-use Rattle.tables.proofs.edition_of.Reads as edition-of
-use Rattle.tables.proofs.write_table.Reads as write-table
+use Rattle.wire.proofs.edition_of.Reads as edition-of
+use Rattle.wire.proofs.write_table.Reads as write-table
+use Rattle.wire.proofs.record_of.Reads as record-of
+use Rattle.wire.proofs.write_record.Reads as write-record
+use Rattle.wire.proofs.pack.Reads as pack
 use Rattle.kvk.proofs.kvk_read.Reads as kvk-read
 use Rattle.kvk.proofs.kvk_write.Reads as kvk-write
 use Rattle.kvk.proofs.kvk_edition.Reads as kvk-edition
 
 -- `Post` is what a contract ensures: of the lifetimes, the arguments, the answer, and what is lent back at exit
+pub byte-at-once : (κs : _) (a : _) (z y : _) (e f : _) → byte-at.Post κs a z e → byte-at.Post κs a y f → z ≡ y
+byte-at-once κs a z y e f p q = p ∙ sym q
+
+pub count-same-once : (κs : _) (a : _) (z y : _) (e f : _) → count-same.Post κs a z e → count-same.Post κs a y f → z ≡ y
+count-same-once κs a z y e f p q = p ∙ sym q
+
+pub is-same-once : (κs : _) (a : _) (z y : _) (e f : _) → is-same.Post κs a z e → is-same.Post κs a y f → z ≡ y
+is-same-once κs a z y e f p q = p ∙ sym q
+
 pub terminal-once : (κs : _) (a : _) (z y : _) (e f : _) → terminal.Post κs a z e → terminal.Post κs a y f → z ≡ y
 terminal-once κs a z y e f p q = p ∙ sym q
 
@@ -116,6 +136,12 @@ objects-size-once κs a z y e f p q = p .1 ∙ sym (q .1)
 pub edition-of-once : (κs : _) (a : _) (z y : _) (e f : _) → edition-of.Post κs a z e → edition-of.Post κs a y f → z ≡ y
 edition-of-once κs a z y e f p q = p ∙ sym q
 
+pub record-of-once : (κs : _) (a : _) (z y : _) (e f : _) → record-of.Post κs a z e → record-of.Post κs a y f → z ≡ y
+record-of-once κs a z y e f p q = p ∙ sym q
+
+pub pack-once : (κs : _) (a : _) (z y : _) (e f : _) → pack.Post κs a z e → pack.Post κs a y f → z ≡ y
+pack-once κs a z y e f p q = p ∙ sym q
+
 -- an enum that is told alike is the same
 pub formed-once : (κs : _) (a : _) (z y : _) (e f : _) → formed.Post κs a z e → formed.Post κs a y f → z ≡ y
 formed-once κs a z y e f p q = Rows.told-apart z y (p ∙ sym q)
@@ -135,6 +161,39 @@ write-buffer-once κs a z y e f p q = p .1 ∙ sym (q .1)
 
 pub write-table-room-once : (κs : _) (a : _) (z y : _) (e f : _) → write-table.Post κs a z e → write-table.Post κs a y f → now (e .1 .0) ≡ now (f .1 .0)
 write-table-room-once κs a z y e f p q = p ∙ sym q
+
+pub write-record-room-once : (κs : _) (a : _) (z y : _) (e f : _) → write-record.Post κs a z e → write-record.Post κs a y f → now (e .1 .0) ≡ now (f .1 .0)
+write-record-room-once κs a z y e f p q = p ∙ sym q
+
+pub put-once : (κs : _) (a : _) (z y : _) (e f : _) → put.Post κs a z e → put.Post κs a y f → z ≡ y
+put-once κs a z y e f p q = p .0 ∙ sym (q .0)
+
+pub put-room-once : (κs : _) (a : _) (z y : _) (e f : _) → put.Post κs a z e → put.Post κs a y f → now (e .0) ≡ now (f .0)
+put-room-once κs a z y e f p q = p .1 ∙ sym (q .1)
+
+pub put-byte-once : (κs : _) (a : _) (z y : _) (e f : _) → put-byte.Post κs a z e → put-byte.Post κs a y f → z ≡ y
+put-byte-once κs a z y e f p q = p .0 ∙ sym (q .0)
+
+pub put-byte-room-once : (κs : _) (a : _) (z y : _) (e f : _) → put-byte.Post κs a z e → put-byte.Post κs a y f → now (e .0) ≡ now (f .0)
+put-byte-room-once κs a z y e f p q = p .1 ∙ sym (q .1)
+
+pub fill-once : (κs : _) (a : _) (z y : _) (e f : _) → fill.Post κs a z e → fill.Post κs a y f → z ≡ y
+fill-once κs a z y e f p q = p .0 ∙ sym (q .0)
+
+pub fill-room-once : (κs : _) (a : _) (z y : _) (e f : _) → fill.Post κs a z e → fill.Post κs a y f → now (e .0) ≡ now (f .0)
+fill-room-once κs a z y e f p q = p .1 ∙ sym (q .1)
+
+pub put-hex-once : (κs : _) (a : _) (z y : _) (e f : _) → put-hex.Post κs a z e → put-hex.Post κs a y f → z ≡ y
+put-hex-once κs a z y e f p q = p .0 ∙ sym (q .0)
+
+pub put-hex-room-once : (κs : _) (a : _) (z y : _) (e f : _) → put-hex.Post κs a z e → put-hex.Post κs a y f → now (e .0) ≡ now (f .0)
+put-hex-room-once κs a z y e f p q = p .1 ∙ sym (q .1)
+
+pub put-decimal-once : (κs : _) (a : _) (z y : _) (e f : _) → put-decimal.Post κs a z e → put-decimal.Post κs a y f → z ≡ y
+put-decimal-once κs a z y e f p q = p .0 ∙ sym (q .0)
+
+pub put-decimal-room-once : (κs : _) (a : _) (z y : _) (e f : _) → put-decimal.Post κs a z e → put-decimal.Post κs a y f → now (e .0) ≡ now (f .0)
+put-decimal-room-once κs a z y e f p q = p .1 ∙ sym (q .1)
 
 pub kvk-read-once : (κs : _) (a : _) (z y : _) (e f : _) → kvk-read.Post κs a z e → kvk-read.Post κs a y f → z ≡ y
 kvk-read-once κs a z y e f p q = p .0 ∙ sym (q .0)

@@ -16,10 +16,10 @@ use Rattle.rules.specs.declared.Rule.the-variants.{Digits, Text, Lead, Code, Bi
 use Rattle.edition.specs.declared.Row.{Row}
 use Rattle.edition.specs.declared.Formed.{Formed}
 use Rattle.edition.specs.declared.Formed.the-variants.{Well, Bad}
-use Rattle.rules.specs.Lists.{among, distinct}
+use Rattle.ground.specs.Lists.{among, distinct}
 use Rattle.edition.specs.Sets.{permitted, only}
-use Rattle.edition.specs.Rows.{tags, noRow, setFormed, byRule, rowFormed, formedFrom, Told, told}
-use Rattle.rules.proofs.Lists.{true-false, and-left, and-right}
+use Rattle.edition.specs.Rows.{tags, noRow, setFormed, byRule, rowFormed, formedFrom, ToldFormed, formedTold}
+use Rattle.ground.proofs.Lists.{true-false, and-left, and-right}
 use Rattle.edition.proofs.Sets.{beyond}
 
 -- the tags of the seventeen rows are distinct
@@ -28,10 +28,10 @@ unfolding distinct among tags
 tags-distinct = refl
 
 -- no two answers are told alike
-pub told-apart : (a b : Formed) → told a ≡ told b → a ≡ b
-told-apart a b e = go a b (ap (λ (t : Told). t .number) e) (ap (λ (t : Told). t .row) e)
+pub told-apart : (a b : Formed) → formedTold a ≡ formedTold b → a ≡ b
+told-apart a b e = go a b (ap (λ (t : ToldFormed). t .number) e) (ap (λ (t : ToldFormed). t .row) e)
   where
-    go : (a b : Formed) → told a .number ≡ told b .number → told a .row ≡ told b .row → a ≡ b
+    go : (a b : Formed) → formedTold a .number ≡ formedTold b .number → formedTold a .row ≡ formedTold b .row → a ≡ b
     go Well Well n r = refl
     go Well (Bad k) n r = absurd (omega arith)
     go (Bad k) Well n r = absurd (omega arith)

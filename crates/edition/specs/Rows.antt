@@ -49,11 +49,11 @@ formedFrom k [] = Well
 formedFrom k (r ∷ rs) = cond (rowFormed (eqb k 16) r) (formedFrom (suc k) rs) (Bad k)
 
 -- the answer in the document's numbers: 2 with the tag of the first bad row
-pub record Told : Type 0 where
+pub record ToldFormed : Type 0 where
   pub number : ℕ
   pub row : ℕ
   pub tag : ℕ
 
-abbrev pub told : Formed → Told
-told Well = record { number = 0; row = 0; tag = 0 }
-told (Bad k) = record { number = 2; row = k; tag = tagOf k }
+abbrev pub formedTold : Formed → ToldFormed
+formedTold Well = record { number = 0; row = 0; tag = 0 }
+formedTold (Bad k) = record { number = 2; row = k; tag = tagOf k }

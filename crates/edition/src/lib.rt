@@ -1,4 +1,6 @@
-// An edition: what each of the seventeen rows asks of its object, in card order.
+// An edition: what each of the seventeen rows asks of its object, in card order; and the two that are shipped.
+// Any rows may stand in one. Whether they are well formed is told by `formed`, and asked by reader and writer before anything else.
+// A length set is a number whose bit n permits the length n; the row of the checksum is the seventeenth, and has no other form.
 mod lengths;
 mod tags;
 
@@ -8,7 +10,7 @@ pub use lengths::shortest;
 use rules::Rule;
 pub use tags::tag_of;
 ghost use mathlib.Core.Path.{_≡_};
-ghost use Rattle.edition.specs.Rows.{byRule, rowFormed, formedFrom, told};
+ghost use Rattle.edition.specs.Rows.{byRule, rowFormed, formedFrom, formedTold};
 ghost use Rattle.edition.specs.Tables.{terminal, issue};
 
 // The bit n of lengths is set where the length n is permitted.
@@ -220,7 +222,7 @@ impl Edition {
 
     // Whether the edition is well formed, or its first bad row in card order.
     pub fn formed(self) -> Formed
-        ensures { λ r. ⌜ told r ≡ told (formedFrom 0 (self .rows)) ⌝ }
+        ensures { λ r. ⌜ formedTold r ≡ formedTold (formedFrom 0 (self .rows)) ⌝ }
     {
         let mut i: usize = 0;
         while i < 17 {

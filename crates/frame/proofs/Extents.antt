@@ -7,11 +7,11 @@ use mathlib.Core.Bool.{Bool, true, false, cond, _&&_}
 use mathlib.Core.List.{List, [], _∷_}
 use lib.Dec.{eqb, leb}
 use lib.ListN.{length, take, drop}
-use Rattle.rules.proofs.Lists.{and-left, and-right}
+use Rattle.ground.proofs.Lists.{and-left, and-right}
 use Rattle.card.specs.declared.fields.LengthField.{LengthField}
 use Rattle.card.specs.declared.fields.LengthField.the-variants.{One, Other}
 use Rattle.card.specs.declared.Refusal.{Refusal}
-use Rattle.card.specs.Fields.{lengthAt, secondByte, told}
+use Rattle.card.specs.Fields.{lengthAt, secondByte, fieldTold}
 use Rattle.card.specs.Reading.{frontRefusal}
 use Rattle.card.proofs.Chains.{neither, gate-in}
 use Rattle.card.specs.Frame.{fieldWrong, fieldOf, startOf, endOf, objectsIn}
@@ -19,9 +19,9 @@ use Rattle.frame.specs.declared.Front.{Front}
 use Rattle.frame.specs.Checks.{openRefusal, frontOf, Framed}
 
 record Extent (f : LengthField) : Type 0 where
-  used : told f .used ≤ 2
-  least : 70 ≤ told f .length
-  most : told f .length ≤ 212
+  used : fieldTold f .used ≤ 2
+  least : 70 ≤ fieldTold f .length
+  most : fieldTold f .length ≤ 212
 
 passes : (q : Bool) (n : ℕ) → cond q 0 (suc n) ≡ 0 → q ≡ true
 passes true n e = refl
@@ -57,7 +57,7 @@ module _ (s : List ℕ) (long : length s ≡ 256) (right : fieldWrong (fieldOf s
   unfolding startOf
   start-most = omega (arith, extent (drop 31 s) right .used)
 
-  pub size-most : told (fieldOf s) .length ≤ 212
+  pub size-most : fieldTold (fieldOf s) .length ≤ 212
   size-most = extent (drop 31 s) right .most
 
   pub ordered : startOf s ≤ endOf s
@@ -67,7 +67,7 @@ module _ (s : List ℕ) (long : length s ≡ 256) (right : fieldWrong (fieldOf s
   pub template-is : objectsIn s ≡ take (endOf s - startOf s) (drop (startOf s) s)
   unfolding endOf
   template-is =
-      let same : told (fieldOf s) .length ≡ startOf s + told (fieldOf s) .length - startOf s = omega arith in
+      let same : fieldTold (fieldOf s) .length ≡ startOf s + fieldTold (fieldOf s) .length - startOf s = omega arith in
       ap (λ (n : ℕ). take n (drop (startOf s) s)) same
 
 -- the length field is right where nothing is refused before the objects

@@ -6,10 +6,10 @@ use mathlib.Core.Path.{_≡_, refl, _∙_}
 use mathlib.Core.List.{List, [], _∷_, _++_}
 use lib.ListN.{length, getD, take, drop, length-take, length-drop, length-append}
 use lib.Seq.{drop-cons, take-at, drop-at}
-use Rattle.rules.specs.Lists.{agree}
+use Rattle.ground.specs.Lists.{agree}
 use Rattle.card.specs.Layout.{identifier, head}
 use Rattle.card.specs.Frame.{freeOf, headEnd}
-use Rattle.frame.proofs.Runs.{agree-cut, agree-own, run-passes}
+use Rattle.ground.proofs.Runs.{agree-cut, agree-own, run-passes}
 
 -- the fixed bytes, and what follows each part of them
 abbrev pub chip : List ℕ

@@ -6,12 +6,12 @@ use mathlib.Core.Path.{_≡_, sym, ap, _∙_}
 use mathlib.Core.List.{List, _∷_, _++_}
 use lib.ListN.{length, getD, take, drop, replicate, length-take, length-drop, length-replicate}
 use lib.Seq.{getD-drop}
-use Rattle.rules.specs.Lists.{agree}
-use Rattle.rules.proofs.Lists.{agree-within}
+use Rattle.ground.specs.Lists.{agree}
+use Rattle.ground.proofs.Lists.{agree-within}
 use Rattle.card.specs.Fields.{lengthField}
 use Rattle.card.specs.Layout.{spaces, lasts, filler}
 use Rattle.card.proofs.Room.{room}
-use Rattle.frame.proofs.Runs.{agree-short, agree-over, agree-none, agree-all, part-stops, part-passes, part-to-end}
+use Rattle.ground.proofs.Runs.{agree-short, agree-over, agree-none, agree-all, part-stops, part-passes, part-to-end}
 use Rattle.card.specs.Frame.{endOf, tailEnd}
 use borrow.Author.Tests.{le-leb}
 use Rattle.frame.specs.Checks.{sameTail, sameIn, Framed}

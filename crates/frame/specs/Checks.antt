@@ -5,11 +5,11 @@ use mathlib.Core.Bool.{cond, _&&_}
 use mathlib.Core.List.{List}
 use lib.Dec.{eqb, leb}
 use lib.ListN.{length, getD}
-use Rattle.rules.specs.Lists.{agree}
+use Rattle.ground.specs.Lists.{agree}
 use Rattle.card.specs.declared.Refusal.{Refusal}
 use Rattle.card.specs.declared.fields.LengthField.{LengthField}
 use Rattle.card.specs.Refusals.{none, orElse, sizeRefusal}
-use Rattle.card.specs.Fields.{told}
+use Rattle.card.specs.Fields.{fieldTold}
 use Rattle.card.specs.Layout.{filler}
 use Rattle.card.specs.Frame.{fieldWrong, startOf, endOf}
 use Rattle.card.specs.Reading.{frontRefusal}
@@ -18,7 +18,7 @@ use Rattle.frame.specs.declared.field.Span.{Span}
 
 -- where a length field is wrong, where the objects start, and the address behind the template
 unfoldable pub spanOf : LengthField → Span
-spanOf f = record { wrong = fieldWrong f; start = 31 + told f .used; end = 31 + told f .used + told f .length }
+spanOf f = record { wrong = fieldWrong f; start = 31 + fieldTold f .used; end = 31 + fieldTold f .used + fieldTold f .length }
 
 -- 1, the refusal of the edition, 3 and 4
 unfoldable pub openRefusal : Refusal → List ℕ → Refusal

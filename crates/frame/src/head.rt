@@ -2,42 +2,26 @@
 ghost use mathlib.Core.Path.{_≡_};
 ghost use Prim.Native.Nat.{_≤_};
 ghost use lib.ListN.{length};
-ghost use Rattle.rules.specs.Lists.{agree};
 ghost use Rattle.card.specs.Frame.{headEnd};
-
-// How many bytes at the head of a part are those wanted.
-pub(crate) fn count_same(part: &[u8], want: &[u8]) -> usize
-    requires { ⌜ length (now want) ≤ length (now part) ⌝ }
-    ensures { λ r. ⌜ r ≡ agree (now (want .entry)) (now (part .entry)) ⌝ }
-{
-    let mut i = 0;
-    while i < want.len() {
-        if part[i] != want[i] {
-            return i;
-        }
-        i += 1;
-    }
-    i
-}
 
 // The first address from 1 to 28 whose byte is not as it must be; 30 where all are.
 pub(crate) fn head_end(image: &[u8]) -> usize
     requires { ⌜ 30 ≤ length (now image) ⌝ }
     ensures { λ r. ⌜ r ≡ headEnd (now (image .entry)) ⌝ }
 {
-    let chip = count_same(&image[1..6], b"\x13\x10\x91\x46\x0B");
+    let chip = ground::count_same(&image[1..6], b"\x13\x10\x91\x46\x0B");
     if chip < 5 {
         return 1 + chip;
     }
-    let tags = count_same(&image[17..21], b"\x61\x0B\x4F\x06");
+    let tags = ground::count_same(&image[17..21], b"\x61\x0B\x4F\x06");
     if tags < 4 {
         return 17 + tags;
     }
-    let identifier = count_same(&image[21..27], b"\xD2\x76\x00\x00\x01\x01");
+    let identifier = ground::count_same(&image[21..27], b"\xD2\x76\x00\x00\x01\x01");
     if identifier < 6 {
         return 21 + identifier;
     }
-    let body = count_same(&image[27..29], b"\x53\x01");
+    let body = ground::count_same(&image[27..29], b"\x53\x01");
     if body < 2 {
         return 27 + body;
     }

@@ -1,14 +1,14 @@
 // What stands around the objects of a card: the head and the template's length before them, the filler behind.
 // Any bytes may be lent. The checksum, and the order of what is refused behind the objects, are the reader's.
 // The refusal of the edition is handed in: it is told between 1 and 3.
-mod checks;
 mod field;
 mod head;
+mod opening;
 mod tail;
 
 use card::Refusal;
-use checks::refuse_open;
 use field::read_span;
+use opening::refuse_open;
 pub use tail::count_tail;
 ghost use mathlib.Core.Path.{_≡_};
 ghost use Rattle.frame.specs.Checks.{frontOf};

@@ -1,11 +1,10 @@
 // What stands behind the template: the filler, then the last byte or bytes.
-use crate::head::count_same;
 ghost use mathlib.Core.Path.{_≡_};
 ghost use mathlib.Core.List.{_∷_};
 ghost use Prim.Native.Nat.{_+_, _≤_};
 ghost use lib.Dec.{eqb};
 ghost use lib.ListN.{length, replicate};
-ghost use Rattle.rules.specs.Lists.{agree};
+ghost use Rattle.ground.specs.Lists.{agree};
 ghost use Rattle.card.specs.Fields.{lengthField};
 ghost use Rattle.frame.specs.Checks.{sameTail, sameIn};
 
@@ -23,9 +22,9 @@ fn lead_same(part: &[u8], count: usize) -> usize
 {
     let n = count as u8;
     if count <= 127 {
-        count_same(part, &[0xC0, n])
+        ground::count_same(part, &[0xC0, n])
     } else {
-        count_same(part, &[0xC0, 0x81, n])
+        ground::count_same(part, &[0xC0, 0x81, n])
     }
 }
 

@@ -1,3 +1,2 @@
--- Editions and records as lent bytes, and the calls of the C interface.
-pub mod Records
+-- The calls of the C interface.
 pub mod Calls

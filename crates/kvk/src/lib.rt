@@ -1,8 +1,6 @@
-// The C interface: editions and records as lent bytes.
-mod bytes;
-mod records;
-mod refusals;
-
+// The C interface: the calls of include/kvk.h, on editions, records and images as lent bytes.
+// Any table, image, record and room may be lent, of whatever size: what has not its size is refused with a number.
+// The number is told even where the room is left: 20 for the room comes before all that is amiss with the card.
 use card::Reading;
 use card::Record;
 use card::Refusal;
@@ -13,7 +11,8 @@ ghost use lib.Dec.{eqb};
 ghost use Rattle.edition.specs.Tables.{terminal, issue};
 ghost use Rattle.card.specs.Content.{emptyRecord};
 ghost use Rattle.card.specs.Refusals.{refuse};
-ghost use Rattle.kvk.specs.Calls.{packed, readingOf, readRefusal, roomAfter, writeRefusal, imageAfter, editionRefusal, tableAfter};
+ghost use Rattle.wire.specs.Answers.{packed};
+ghost use Rattle.kvk.specs.Calls.{tableReading, kvkRead, kvkReadRoom, kvkWrite, kvkWriteImage, kvkEdition, kvkEditionRoom};
 
 fn refused_reading(number: u8) -> Reading
     ensures { λ r. ⌜ r ≡ record { refusal = refuse number 0 0; content = emptyRecord } ⌝ }
@@ -25,7 +24,7 @@ fn refused_reading(number: u8) -> Reading
 }
 
 fn reading_of(table: &[u8], image: &[u8]) -> Reading
-    ensures { λ r. ⌜ r ≡ readingOf (now (table .entry)) (now (image .entry)) ⌝ }
+    ensures { λ r. ⌜ r ≡ tableReading (now (table .entry)) (now (image .entry)) ⌝ }
 {
     if image.len() != 256 {
         return refused_reading(1);
@@ -33,26 +32,26 @@ fn reading_of(table: &[u8], image: &[u8]) -> Reading
     if table.len() != 102 {
         return refused_reading(2);
     }
-    reader::read(tables::edition_of(table), image)
+    reader::read(wire::edition_of(table), image)
 }
 
 // Reads an image into a record of 478 bytes, under a table of 102 bytes.
 #[no_mangle]
 pub extern "C" fn kvk_read(table: &[u8], image: &[u8], room: &mut [u8]) -> u64
-    ensures { λ r. ⌜ r ≡ packed (readRefusal (now (table .entry)) (now (image .entry)) (now (room .entry))) ⌝ }
-    ensures { λ _. ⌜ now (room .exit) ≡ roomAfter (now (table .entry)) (now (image .entry)) (now (room .entry)) ⌝ }
+    ensures { λ r. ⌜ r ≡ packed (kvkRead (now (table .entry)) (now (image .entry)) (now (room .entry))) ⌝ }
+    ensures { λ _. ⌜ now (room .exit) ≡ kvkReadRoom (now (table .entry)) (now (image .entry)) (now (room .entry)) ⌝ }
 {
     if room.len() != 478 {
-        return refusals::pack(Refusal::new(20, 0, 0));
+        return wire::pack(Refusal::new(20, 0, 0));
     }
     let reading = reading_of(table, image);
-    records::write_record(reading.content, room);
-    refusals::pack(reading.refusal)
+    wire::write_record(reading.content, room);
+    wire::pack(reading.refusal)
 }
 
 fn written(table: &[u8], bytes: &[u8], image: &mut [u8]) -> Refusal
-    ensures { λ r. ⌜ r ≡ writeRefusal (now (table .entry)) (now (bytes .entry)) (now (image .entry)) ⌝ }
-    ensures { λ _. ⌜ now (image .exit) ≡ imageAfter (now (table .entry)) (now (bytes .entry)) (now (image .entry)) ⌝ }
+    ensures { λ r. ⌜ r ≡ kvkWrite (now (table .entry)) (now (bytes .entry)) (now (image .entry)) ⌝ }
+    ensures { λ _. ⌜ now (image .exit) ≡ kvkWriteImage (now (table .entry)) (now (bytes .entry)) (now (image .entry)) ⌝ }
 {
     if bytes.len() != 478 {
         return Refusal::new(20, 0, 0);
@@ -63,16 +62,16 @@ fn written(table: &[u8], bytes: &[u8], image: &mut [u8]) -> Refusal
     if table.len() != 102 {
         return Refusal::new(2, 0, 0);
     }
-    writer::write(tables::edition_of(table), records::record_of(bytes), image)
+    writer::write(wire::edition_of(table), wire::record_of(bytes), image)
 }
 
 // Writes a record of 478 bytes into an image, under a table of 102 bytes.
 #[no_mangle]
 pub extern "C" fn kvk_write(table: &[u8], bytes: &[u8], image: &mut [u8]) -> u64
-    ensures { λ r. ⌜ r ≡ packed (writeRefusal (now (table .entry)) (now (bytes .entry)) (now (image .entry))) ⌝ }
-    ensures { λ _. ⌜ now (image .exit) ≡ imageAfter (now (table .entry)) (now (bytes .entry)) (now (image .entry)) ⌝ }
+    ensures { λ r. ⌜ r ≡ packed (kvkWrite (now (table .entry)) (now (bytes .entry)) (now (image .entry))) ⌝ }
+    ensures { λ _. ⌜ now (image .exit) ≡ kvkWriteImage (now (table .entry)) (now (bytes .entry)) (now (image .entry)) ⌝ }
 {
-    refusals::pack(written(table, bytes, image))
+    wire::pack(written(table, bytes, image))
 }
 
 fn shipped(which: u64) -> Edition
@@ -88,16 +87,16 @@ fn shipped(which: u64) -> Edition
 // Fills a room of 102 bytes with the table of a shipped edition: 1 terminal, 2 issue.
 #[no_mangle]
 pub extern "C" fn kvk_edition(which: u64, room: &mut [u8]) -> u64
-    ensures { λ r. ⌜ r ≡ packed (editionRefusal which (now (room .entry))) ⌝ }
-    ensures { λ _. ⌜ now (room .exit) ≡ tableAfter which (now (room .entry)) ⌝ }
+    ensures { λ r. ⌜ r ≡ packed (kvkEdition which (now (room .entry))) ⌝ }
+    ensures { λ _. ⌜ now (room .exit) ≡ kvkEditionRoom which (now (room .entry)) ⌝ }
 {
     if room.len() != 102 {
-        return refusals::pack(Refusal::new(20, 0, 0));
+        return wire::pack(Refusal::new(20, 0, 0));
     }
     let known = (which == 1) | (which == 2);
     if !known {
-        return refusals::pack(Refusal::new(2, 0, 0));
+        return wire::pack(Refusal::new(2, 0, 0));
     }
-    tables::write_table(shipped(which), room);
+    wire::write_table(shipped(which), room);
     0
 }

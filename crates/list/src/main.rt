@@ -1,4 +1,6 @@
-// Lists the card on standard input under the terminal edition.
+// Lists the card on standard input under the terminal edition, on standard output.
+// What is read and written there is whatever the caller has put there; nothing is said on standard error.
+// A card with something behind it is none: it is refused with 1.
 use edition::Edition;
 use libc::STDIN_FILENO;
 use libc::STDOUT_FILENO;

@@ -1,28 +1,13 @@
 -- The text of a reading: `ACCEPTED` and a line for each object that is present, or one line `REFUSED number place TAG shortest longest`.
-use Prim.Native.Nat.{ℕ, _+_, _/_, _%_}
+use Prim.Native.Nat.{ℕ}
 use mathlib.Core.Bool.{cond}
 use mathlib.Core.List.{List, [], _∷_, _++_}
-use lib.Dec.{ltb, eqb}
+use lib.Dec.{eqb}
+use Rattle.ground.specs.Rooms.{hex, decimal}
 use Rattle.card.specs.declared.Refusal.{Refusal}
 use Rattle.card.specs.Content.{contentOf}
 use Rattle.card.specs.Layout.{objectTags}
 use Rattle.card.specs.declared.Reading.{Reading}
-
--- a byte as two capital hex digits
-abbrev pub hexDigit : ℕ → ℕ
-hexDigit n = cond (ltb n 10) (0x30 + n) (0x37 + n)
-
-unfoldable pub hex : ℕ → List ℕ
-hex b = hexDigit (b / 16) ∷ hexDigit (b % 16) ∷ []
-
--- a number below 1000 without leading zeros; of a larger one the last three digits
-abbrev pub digit : ℕ → ℕ
-digit n = 0x30 + n % 10
-
-unfoldable pub decimal : ℕ → List ℕ
-decimal n =
-    cond (ltb n 10) (digit n ∷ [])
-    (cond (ltb n 100) (digit (n / 10) ∷ digit n ∷ []) (digit (n / 100) ∷ digit (n / 10) ∷ digit n ∷ []))
 
 -- a line has the tag, a blank and the value's bytes as they stand; an absent object has none
 unfoldable pub objectLine : ℕ → List ℕ → List ℕ
@@ -35,12 +20,12 @@ objectLines [] (v ∷ vs) = []
 objectLines (t ∷ ts) (v ∷ vs) = objectLine t v ++ objectLines ts vs
 
 -- `ACCEPTED`
-abbrev pub accepted : List ℕ
-accepted = 0x41 ∷ 0x43 ∷ 0x43 ∷ 0x45 ∷ 0x50 ∷ 0x54 ∷ 0x45 ∷ 0x44 ∷ []
+abbrev pub acceptedWord : List ℕ
+acceptedWord = 0x41 ∷ 0x43 ∷ 0x43 ∷ 0x45 ∷ 0x50 ∷ 0x54 ∷ 0x45 ∷ 0x44 ∷ []
 
 -- `REFUSED`
-abbrev pub refused : List ℕ
-refused = 0x52 ∷ 0x45 ∷ 0x46 ∷ 0x55 ∷ 0x53 ∷ 0x45 ∷ 0x44 ∷ []
+abbrev pub refusedWord : List ℕ
+refusedWord = 0x52 ∷ 0x45 ∷ 0x46 ∷ 0x55 ∷ 0x53 ∷ 0x45 ∷ 0x44 ∷ []
 
 abbrev pub blank : List ℕ → List ℕ
 blank word = 0x20 ∷ word
@@ -53,11 +38,11 @@ unfoldable pub ends : Refusal → List ℕ
 ends x = blank (decimal (x .shortest)) ++ (blank (decimal (x .longest)) ++ (0x0A ∷ []))
 
 unfoldable pub refusedLine : Refusal → List ℕ
-refusedLine x = refused ++ (cause x ++ ends x)
+refusedLine x = refusedWord ++ (cause x ++ ends x)
 
 -- the text of a refusal and sixteen values; the number 0 says that nothing is refused
 unfoldable pub listing : Refusal → List (List ℕ) → List ℕ
-listing x vs = cond (eqb (x .number) 0) (accepted ++ (0x0A ∷ objectLines objectTags vs)) (refusedLine x)
+listing x vs = cond (eqb (x .number) 0) (acceptedWord ++ (0x0A ∷ objectLines objectTags vs)) (refusedLine x)
 
 abbrev pub listingOf : Reading → List ℕ
 listingOf r = listing (r .refusal) (contentOf (r .content) .values)

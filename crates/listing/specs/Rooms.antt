@@ -13,20 +13,15 @@ use Rattle.card.specs.Reading.{reading}
 use Rattle.listing.specs.Listing.{listingOf}
 
 -- the longest listing has 9 bytes and sixteen lines of 32
-abbrev pub sizeAfter : Edition → List ℕ → List ℕ → ℕ
-sizeAfter e image room = cond (leb 521 (length room)) (length (listingOf (reading e image))) 0
+abbrev pub listedSize : Edition → List ℕ → List ℕ → ℕ
+listedSize e image room = cond (leb 521 (length room)) (length (listingOf (reading e image))) 0
 
-abbrev pub roomAfter : Edition → List ℕ → List ℕ → List ℕ
-roomAfter e image room = cond (leb 521 (length room)) (sets room 0 (listingOf (reading e image))) room
+abbrev pub listedRoom : Edition → List ℕ → List ℕ → List ℕ
+listedRoom e image room = cond (leb 521 (length room)) (sets room 0 (listingOf (reading e image))) room
 
 -- n counts bytes at the start of a room; the second part follows from the first, and is what a caller that lends them has to show
 abbrev pub Within : ℕ → List ℕ → Type 0
 Within n room = (n ≤ length room) × (n ≡ length (take n room))
-
--- some bytes were put into a room from `at` on: the room after it, and the place behind them
-pub record Put (room : List ℕ) (at : ℕ) (bytes : List ℕ) (after : List ℕ) (behind : ℕ) : Type 0 where
-  pub stored : after ≡ sets room at bytes
-  pub place : behind ≡ at + length bytes
 
 -- the bytes of an object that are listed: no more than it has
 abbrev pub shown : Object → List ℕ

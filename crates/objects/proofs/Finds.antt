@@ -13,11 +13,11 @@ use Rattle.rules.specs.declared.Rule.{Rule}
 use Rattle.edition.specs.declared.Row.{Row}
 use Rattle.rules.specs.declared.values.Verdict.{Verdict}
 use Rattle.rules.specs.declared.values.Verdict.the-variants.{Takes, Outside, Breaks}
-use Rattle.rules.specs.Lists.{among}
+use Rattle.ground.specs.Lists.{among}
 use Rattle.edition.specs.Sets.{permitted}
-use Rattle.rules.specs.Values.{judged, told as verdictTold}
+use Rattle.rules.specs.Values.{judged, verdictTold}
 use Rattle.edition.specs.Rows.{tags, tagOf}
-use Rattle.rules.proofs.Lists.{true-false}
+use Rattle.ground.proofs.Lists.{true-false}
 use Rattle.rules.proofs.Verdicts.{nine-means}
 use Rattle.card.specs.declared.Refusal.{Refusal}
 use Rattle.card.specs.Refusals.{refuse, refuseLength}
@@ -28,21 +28,21 @@ use Rattle.objects.specs.declared.standing.Met.the-variants.{Absent, The
 use Rattle.card.specs.Rules.{Entry}
 use Rattle.card.proofs.Walks.{View, left-out, found, amiss, view}
 use Rattle.edition.proofs.Sets.{never-0}
-use Rattle.objects.specs.Objects.{Told, told, entryOf, foundOf, valued, here, missing, refusalOf, metOf}
+use Rattle.objects.specs.Objects.{ToldFound, foundTold, entryAt, foundOf, valued, here, passedOver, withEnds, metOf}
 
 -- no two answers are told alike
-pub told-apart : (a b : Found) → told a ≡ told b → a ≡ b
+pub told-apart : (a b : Found) → foundTold a ≡ foundTold b → a ≡ b
 told-apart (Object k start n) (Object j start′ n′) e =
-    let row = ap (λ (t : Told). t .row) e in
-    let begins = ap (λ (t : Told). t .start) e in
-    let long = ap (λ (t : Told). t .length) e in
+    let row = ap (λ (t : ToldFound). t .row) e in
+    let begins = ap (λ (t : ToldFound). t .start) e in
+    let long = ap (λ (t : ToldFound). t .length) e in
     cc
-told-apart (Object k start n) (Refused x place tag) e = absurd (true-false (ap (λ (t : Told). t .refused) e) refl)
-told-apart (Refused x place tag) (Object k start n) e = absurd (true-false refl (ap (λ (t : Told). t .refused) e))
+told-apart (Object k start n) (Refused x place tag) e = absurd (true-false (ap (λ (t : ToldFound). t .refused) e) refl)
+told-apart (Refused x place tag) (Object k start n) e = absurd (true-false refl (ap (λ (t : ToldFound). t .refused) e))
 told-apart (Refused x place tag) (Refused x′ place′ tag′) e =
-    let number = ap (λ (t : Told). t .number) e in
-    let at = ap (λ (t : Told). t .place) e in
-    let of = ap (λ (t : Told). t .tag) e in
+    let number = ap (λ (t : ToldFound). t .number) e in
+    let at = ap (λ (t : ToldFound). t .place) e in
+    let of = ap (λ (t : ToldFound). t .tag) e in
     cc
 
 -- the first byte outside a rule's characters lies within the value
@@ -71,11 +71,11 @@ here-some k (b ∷ l) e = omega arith
 pub part-left : (n : ℕ) (l : List ℕ) → take (length l - n) (drop n l) ≡ drop n l
 part-left n l = take-all (length l - n) (drop n l) (omega (arith, length-drop n l))
 
-pub missing-end : (k at : ℕ) (l : List ℕ) → length l ≡ 0 → missing k at l ≡ refuse 6 at (tagOf k)
+pub missing-end : (k at : ℕ) (l : List ℕ) → length l ≡ 0 → passedOver k at l ≡ refuse 6 at (tagOf k)
 missing-end k at [] e = refl
 missing-end k at (b ∷ l) e = absurd (omega arith)
 
-pub missing-head : (k at : ℕ) (l : List ℕ) → 0 < length l → missing k at l ≡ cond (among (getD l 0 0) (drop (suc k) tags)) (refuse 6 at (tagOf k)) (refuse 5 at 0)
+pub missing-head : (k at : ℕ) (l : List ℕ) → 0 < length l → passedOver k at l ≡ cond (among (getD l 0 0) (drop (suc k) tags)) (refuse 6 at (tagOf k)) (refuse 5 at 0)
 missing-head k at [] h = absurd (not-suc-le-zero h)
 missing-head k at (b ∷ l) h = refl
 
@@ -94,31 +94,31 @@ later-end b j h = rw (drop-of-length-le tags h)
 
 -- ---- the object that stands at `at`, where l is left behind its tag
 module _ (k at : ℕ) (r : Row) where
-  pub found-cut : (l : List ℕ) → length l ≡ 0 → objectAt (entryOf k r) at l ≡ wrong (refuse 8 at (tagOf k))
+  pub found-cut : (l : List ℕ) → length l ≡ 0 → objectAt (entryAt k r) at l ≡ wrong (refuse 8 at (tagOf k))
   unfolding objectAt
   found-cut [] e = refl
   found-cut (n ∷ l) e = absurd (omega arith)
 
   pub found-unlisted : (l : List ℕ) → 0 < length l → permitted (r .lengths) (getD l 0 0) ≡ false
-      → objectAt (entryOf k r) at l ≡ wrong (refuseLength (at + 1) (tagOf k) (r .lengths))
+      → objectAt (entryAt k r) at l ≡ wrong (refuseLength (at + 1) (tagOf k) (r .lengths))
   unfolding objectAt
   found-unlisted [] h b = absurd (not-suc-le-zero h)
   found-unlisted (n ∷ l) h b = rw b
 
   pub found-overlong : (l : List ℕ) → 0 < length l → permitted (r .lengths) (getD l 0 0) ≡ true → length l < 1 + getD l 0 0
-      → objectAt (entryOf k r) at l ≡ wrong (refuse 8 at (tagOf k))
+      → objectAt (entryAt k r) at l ≡ wrong (refuse 8 at (tagOf k))
   unfolding objectAt
   found-overlong [] h b c = absurd (not-suc-le-zero h)
   found-overlong (n ∷ l) h b c = rw (b, lt-leb n (length l) (omega arith))
 
   pub found-weighed : (l : List ℕ) → 0 < length l → permitted (r .lengths) (getD l 0 0) ≡ true → 1 + getD l 0 0 ≤ length l
-      → objectAt (entryOf k r) at l
-      ≡ weighed (entryOf k r) (at + 2) (take (getD l 0 0) (drop 1 l)) (drop (getD l 0 0) (drop 1 l)) (judged (r .rule) (take (getD l 0 0) (drop 1 l)))
+      → objectAt (entryAt k r) at l
+      ≡ weighed (entryAt k r) (at + 2) (take (getD l 0 0) (drop 1 l)) (drop (getD l 0 0) (drop 1 l)) (judged (r .rule) (take (getD l 0 0) (drop 1 l)))
   unfolding objectAt
   found-weighed [] h b c = absurd (not-suc-le-zero h)
   found-weighed (n ∷ l) h b c = rw (b, le-leb n (length l) (omega arith))
 
-  pub weighed-found : (v rest : List ℕ) (d : Verdict) → foundOf k at (weighed (entryOf k r) (at + 2) v rest d) ≡ valued k (at + 2) (length v) d
+  pub weighed-found : (v rest : List ℕ) (d : Verdict) → foundOf k at (weighed (entryAt k r) (at + 2) v rest d) ≡ valued k (at + 2) (length v) d
   unfolding foundOf weighed valued
   weighed-found v rest Takes = refl
   weighed-found v rest (Outside i) = refl
@@ -127,16 +127,16 @@ module _ (k at : ℕ) (r : Row) where
   -- its value, or a refusal, which its number, place and tag tell whole
   pub data Stands (l : List ℕ) : Seen → Type 0 where
     taken : (n : ℕ) → permitted (r .lengths) n ≡ true → 1 + n ≤ length l → Stands l (there (take n (drop 1 l)) (drop n (drop 1 l)))
-    turned : (x : Refusal) → refusalOf (r .lengths) (x .number) (x .place) (x .tag) ≡ x → 0 < x .number → Stands l (wrong x)
+    turned : (x : Refusal) → withEnds (r .lengths) (x .number) (x .place) (x .tag) ≡ x → 0 < x .number → Stands l (wrong x)
 
-  pub stands : (l : List ℕ) → Stands l (objectAt (entryOf k r) at l)
-  unfolding objectAt weighed refusalOf
+  pub stands : (l : List ℕ) → Stands l (objectAt (entryAt k r) at l)
+  unfolding objectAt weighed withEnds
   stands [] = turned (refuse 8 at (tagOf k)) refl (omega arith)
   stands (n ∷ l) = go (permitted (r .lengths) n) refl (leb n (length l)) refl (judged (r .rule) (take n l))
     where
       go : (p : Bool) → permitted (r .lengths) n ≡ p → (q : Bool) → leb n (length l) ≡ q → (d : Verdict)
           → Stands (n ∷ l)
-          (cond p (cond q (weighed (entryOf k r) (at + 2) (take n l) (drop n l) d) (wrong (refuse 8 at (tagOf k)))) (wrong (refuseLength (at + 1) (tagOf k) (r .lengths))))
+          (cond p (cond q (weighed (entryAt k r) (at + 2) (take n l) (drop n l) d) (wrong (refuse 8 at (tagOf k)))) (wrong (refuseLength (at + 1) (tagOf k) (r .lengths))))
       go false e q f d = turned (refuseLength (at + 1) (tagOf k) (r .lengths)) refl (omega arith)
       go true e false f d = turned (refuse 8 at (tagOf k)) refl (omega arith)
       go true e true f Takes = taken n e (omega (arith, leb-true n (length l) f))
@@ -144,17 +144,17 @@ module _ (k at : ℕ) (r : Row) where
       go true e true f Breaks = turned (refuse 10 (at + 2) (tagOf k)) refl (omega arith)
 
   -- ---- what the row finds
-  pub look-here : (ts l : List ℕ) → here k l ≡ true → look (entryOf k r) ts at l ≡ objectAt (entryOf k r) at (drop 1 l)
+  pub look-here : (ts l : List ℕ) → here k l ≡ true → look (entryAt k r) ts at l ≡ objectAt (entryAt k r) at (drop 1 l)
   unfolding look
   look-here ts [] e = absurd (true-false e refl)
   look-here ts (b ∷ l) e = rw e
 
-  pub look-passed : (ts l : List ℕ) → here k l ≡ false → r .required ≡ false → look (entryOf k r) ts at l ≡ absent
+  pub look-passed : (ts l : List ℕ) → here k l ≡ false → r .required ≡ false → look (entryAt k r) ts at l ≡ absent
   unfolding look passed
   look-passed ts [] e q = rw q
   look-passed ts (b ∷ l) e q = rw (e, q)
 
-  pub look-missing : (l : List ℕ) → here k l ≡ false → r .required ≡ true → look (entryOf k r) (drop (suc k) tags) at l ≡ wrong (missing k at l)
+  pub look-missing : (l : List ℕ) → here k l ≡ false → r .required ≡ true → look (entryAt k r) (drop (suc k) tags) at l ≡ wrong (passedOver k at l)
   unfolding look passed
   look-missing [] e q = rw q
   look-missing (b ∷ l) e q = rw (e, q)
@@ -176,37 +176,37 @@ module _ (k at : ℕ) (r : Row) where
       record { begins = sym begins; inside = omega arith; allowed = rw (← is) p; is = rw (← is) refl }
   took l x j start n (turned y f h) e = absurd (let z : _≡_ {A = ℕ} 0 1 = cc in omega arith)
 
-  pub told-off : (l : List ℕ) (x : Seen) (a b c : ℕ) → Stands l x → foundOf k at x ≡ Refused a b c → (x ≡ wrong (refusalOf (r .lengths) a b c)) × (0 < refusalOf (r .lengths) a b c .number)
+  pub told-off : (l : List ℕ) (x : Seen) (a b c : ℕ) → Stands l x → foundOf k at x ≡ Refused a b c → (x ≡ wrong (withEnds (r .lengths) a b c)) × (0 < withEnds (r .lengths) a b c .number)
   unfolding foundOf
   told-off l x a b c (taken m p h) e = absurd (let z : _≡_ {A = ℕ} 0 1 = cc in omega arith)
   told-off l x a b c (turned y f h) e =
       let na : y .number ≡ a = cc in
       let nb : y .place ≡ b = cc in
       let nc : y .tag ≡ c = cc in
-      let same : refusalOf (r .lengths) a b c ≡ y = rw (← na, ← nb, ← nc) f in
+      let same : withEnds (r .lengths) a b c ≡ y = rw (← na, ← nb, ← nc) f in
       rw same (refl, h)
 
   -- the answer is that of what stands there
-  pub answer-is : (l part : List ℕ) (f : Found) → part ≡ l → told f ≡ told (foundOf k at (objectAt (entryOf k r) at part)) → foundOf k at (objectAt (entryOf k r) at l) ≡ f
-  answer-is l part f e t = sym (told-apart f _ t ∙ ap (λ (x : List ℕ). foundOf k at (objectAt (entryOf k r) at x)) e)
+  pub answer-is : (l part : List ℕ) (f : Found) → part ≡ l → foundTold f ≡ foundTold (foundOf k at (objectAt (entryAt k r) at part)) → foundOf k at (objectAt (entryAt k r) at l) ≡ f
+  answer-is l part f e t = sym (told-apart f _ t ∙ ap (λ (x : List ℕ). foundOf k at (objectAt (entryAt k r) at x)) e)
 
   -- ---- what the row meets
   module _ (ts l : List ℕ) where
-    pub meets-there : (start n : ℕ) → here k l ≡ true → Took (drop 1 l) start n (objectAt (entryOf k r) at (drop 1 l)) → There start n ≡ metOf at (look (entryOf k r) ts at l)
+    pub meets-there : (start n : ℕ) → here k l ≡ true → Took (drop 1 l) start n (objectAt (entryAt k r) at (drop 1 l)) → There start n ≡ metOf at (look (entryAt k r) ts at l)
     unfolding metOf
     meets-there start n h t =
         let long : length (take n (drop 1 (drop 1 l))) ≡ n = length-take-le n (drop 1 (drop 1 l)) (omega (arith, t .inside, length-drop 1 (drop 1 l))) in
         rw (look-here ts l h, t .is, long, t .begins)
 
-    pub meets-wrong : (x : Refusal) → here k l ≡ true → objectAt (entryOf k r) at (drop 1 l) ≡ wrong x → Wrong x ≡ metOf at (look (entryOf k r) ts at l)
+    pub meets-wrong : (x : Refusal) → here k l ≡ true → objectAt (entryAt k r) at (drop 1 l) ≡ wrong x → Wrong x ≡ metOf at (look (entryAt k r) ts at l)
     unfolding metOf
     meets-wrong x h e = rw (look-here ts l h, e)
 
-    pub meets-absent : here k l ≡ false → r .required ≡ false → Absent ≡ metOf at (look (entryOf k r) ts at l)
+    pub meets-absent : here k l ≡ false → r .required ≡ false → Absent ≡ metOf at (look (entryAt k r) ts at l)
     unfolding metOf
     meets-absent h q = rw (look-passed ts l h q)
 
-  pub meets-missing : (l : List ℕ) → here k l ≡ false → r .required ≡ true → Wrong (missing k at l) ≡ metOf at (look (entryOf k r) (drop (suc k) tags) at l)
+  pub meets-missing : (l : List ℕ) → here k l ≡ false → r .required ≡ true → Wrong (passedOver k at l) ≡ metOf at (look (entryAt k r) (drop (suc k) tags) at l)
   unfolding metOf
   meets-missing l h q = rw (look-missing l h q)
 

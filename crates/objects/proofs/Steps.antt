@@ -21,7 +21,7 @@ use Rattle.card.proofs.Chains.{or-pass, or-stop}
 use Rattle.card.proofs.Walks.{walk-refuses}
 use Rattle.card.proofs.Starts.{starts-length, starts-at}
 use Rattle.card.specs.Places.{startAt, startsFrom, noPlaces, placed}
-use Rattle.objects.specs.Objects.{entryOf, tableRefusal, tableOf}
+use Rattle.objects.specs.Objects.{entryAt, tableRefusal, tableOf}
 
 -- ---- the entries of the rows from number k on
 tags-of : (ts : List ℕ) (rs : List Row) → length ts ≡ length rs → tagsOf (entries ts rs) ≡ ts
@@ -33,7 +33,7 @@ tags-of (t ∷ ts) (r ∷ rs) e = ap (λ (us : List ℕ). t ∷ us) (tags-of ts 
 -- the walk at row k
 pub walk-row : (rows : List Row) (k at : ℕ) (bs : List ℕ) → length rows ≡ 17 → k < 17
     → walk (entries (drop k tags) (drop k rows)) at bs
-    ≡ onward (walk (entries (drop (suc k) tags) (drop (suc k) rows))) at bs (look (entryOf k (getD rows k noRow)) (drop (suc k) tags) at bs)
+    ≡ onward (walk (entries (drop (suc k) tags) (drop (suc k) rows))) at bs (look (entryAt k (getD rows k noRow)) (drop (suc k) tags) at bs)
 unfolding walk entries tags
 walk-row rows k at bs n h =
     let left : length (drop (suc k) tags) ≡ length (drop (suc k) rows) = length-drop (suc k) tags ∙ sym (length-drop (suc k) rows ∙ ap (λ (m : ℕ). m - suc k) n) in
@@ -132,7 +132,7 @@ sofar-none t rows from = record {
 
 module _ (t : List ℕ) (rows : List Row) (from k i : ℕ) (st ls : List ℕ) (seventeen : length rows ≡ 17) (below : k < 16) (p : Sofar t rows from k i st ls) where
   abbrev seen : Seen
-  seen = look (entryOf k (getD rows k noRow)) (drop (suc k) tags) (from + i) (drop i t)
+  seen = look (entryAt k (getD rows k noRow)) (drop (suc k) tags) (from + i) (drop i t)
 
   -- the walk behind what the row sees
   abbrev further : Seen → Walked
@@ -191,21 +191,21 @@ module _ (t : List ℕ) (rows : List Row) (from k i : ℕ) (st ls : List ℕ) (s
 -- ---- the last row
 module _ (at : ℕ) (r : Row) (l : List ℕ) where
   abbrev lastly : Refusal
-  lastly = tableRefusal (at + length l) (walk (entryOf 16 r ∷ []) at l)
+  lastly = tableRefusal (at + length l) (walk (entryAt 16 r ∷ []) at l)
 
-  last-is : (x : Seen) → look (entryOf 16 r) (drop 17 tags) at l ≡ x → lastly ≡ tableRefusal (at + length l) (onward (walk []) at l x)
+  last-is : (x : Seen) → look (entryAt 16 r) (drop 17 tags) at l ≡ x → lastly ≡ tableRefusal (at + length l) (onward (walk []) at l x)
   unfolding walk tags
   last-is x e = rw e
 
-  pub last-wrong : (x : Refusal) → look (entryOf 16 r) (drop 17 tags) at l ≡ wrong x → lastly ≡ x
+  pub last-wrong : (x : Refusal) → look (entryAt 16 r) (drop 17 tags) at l ≡ wrong x → lastly ≡ x
   unfolding tableRefusal onward walk tags
-  last-wrong x e = last-is (wrong x) e ∙ or-stop x _ (walk-refuses (entryOf 16 r ∷ []) at l x (rw e))
+  last-wrong x e = last-is (wrong x) e ∙ or-stop x _ (walk-refuses (entryAt 16 r ∷ []) at l x (rw e))
 
-  pub last-absent : look (entryOf 16 r) (drop 17 tags) at l ≡ absent → lastly ≡ restRefusal (at + length l) (length l)
+  pub last-absent : look (entryAt 16 r) (drop 17 tags) at l ≡ absent → lastly ≡ restRefusal (at + length l) (length l)
   unfolding tableRefusal onward push walk
   last-absent e = last-is absent e ∙ or-pass none _ refl
 
-  pub last-there : (v rest : List ℕ) → look (entryOf 16 r) (drop 17 tags) at l ≡ there v rest → lastly ≡ restRefusal (at + length l) (length rest)
+  pub last-there : (v rest : List ℕ) → look (entryAt 16 r) (drop 17 tags) at l ≡ there v rest → lastly ≡ restRefusal (at + length l) (length rest)
   unfolding tableRefusal onward push walk
   last-there v rest e = last-is (there v rest) e ∙ or-pass none _ refl
 
@@ -218,7 +218,7 @@ table-pushed end vs (stopped x) = refl
 module _ (t : List ℕ) (rows : List Row) (from i : ℕ) (st ls : List ℕ) (seventeen : length rows ≡ 17) (hs : length st ≡ 16) (hl : length ls ≡ 16)
     (inside : i ≤ length t) (p : Sofar t rows from 16 i st ls) where
   abbrev last : Refusal
-  last = tableRefusal (from + i + length (drop i t)) (walk (entryOf 16 (getD rows 16 noRow) ∷ []) (from + i) (drop i t))
+  last = tableRefusal (from + i + length (drop i t)) (walk (entryAt 16 (getD rows 16 noRow) ∷ []) (from + i) (drop i t))
 
   abbrev whole : Walked
   whole = walk (entries tags rows) from t
@@ -229,14 +229,14 @@ module _ (t : List ℕ) (rows : List Row) (from i : ℕ) (st ls : List ℕ) (sev
   lengths-are : ls ≡ map length (p .vs)
   lengths-are = ext-getD 0 ls _ (hl ∙ sym (length-map (p .vs) length ∙ p .many)) (λ j h. p .lengths j ∙ sym (List·getD-map length (p .vs) j []))
 
-  left-walk : walk (entries (drop 16 tags) (drop 16 rows)) (from + i) (drop i t) ≡ walk (entryOf 16 (getD rows 16 noRow) ∷ []) (from + i) (drop i t)
+  left-walk : walk (entries (drop 16 tags) (drop 16 rows)) (from + i) (drop i t) ≡ walk (entryAt 16 (getD rows 16 noRow) ∷ []) (from + i) (drop i t)
   unfolding entries tags
   left-walk =
       let none : drop 17 rows ≡ [] = drop-of-length-le rows {i = 17} (omega arith) in
       let one : drop 16 rows ≡ getD rows 16 noRow ∷ [] = drop-cons rows 16 noRow (omega arith) ∙ ap (λ (rs : List Row). getD rows 16 noRow ∷ rs) none in
       ap (λ (rs : List Row). walk (entries (drop 16 tags) rs) (from + i) (drop i t)) one
 
-  walked-is : whole ≡ pushAll (p .vs) (walk (entryOf 16 (getD rows 16 noRow) ∷ []) (from + i) (drop i t))
+  walked-is : whole ≡ pushAll (p .vs) (walk (entryAt 16 (getD rows 16 noRow) ∷ []) (from + i) (drop i t))
   walked-is = p .walked ∙ ap (pushAll (p .vs)) left-walk
 
   last-is-whole : tableRefusal (from + length t) whole ≡ last
@@ -244,15 +244,15 @@ module _ (t : List ℕ) (rows : List Row) (from i : ℕ) (st ls : List ℕ) (sev
       let end : from + length t ≡ from + i + length (drop i t) = omega (arith, length-drop i t) in
       rw (end, walked-is) (table-pushed _ (p .vs) _)
 
-  refused-is : (x : Refusal) → walk (entryOf 16 (getD rows 16 noRow) ∷ []) (from + i) (drop i t) ≡ stopped x → last ≡ x
+  refused-is : (x : Refusal) → walk (entryAt 16 (getD rows 16 noRow) ∷ []) (from + i) (drop i t) ≡ stopped x → last ≡ x
   unfolding tableRefusal
   refused-is x e = rw e (or-stop x _ (walk-refuses _ _ _ x e))
 
   pub table-is : tableOf from (from + length t) whole ≡ cond (eqb (last .number) 0) (record { refusal = none; starts = st; lengths = ls }) (noPlaces last)
   unfolding tableOf placed
-  table-is = rw last-is-whole (go (walk (entryOf 16 (getD rows 16 noRow) ∷ []) (from + i) (drop i t)) refl)
+  table-is = rw last-is-whole (go (walk (entryAt 16 (getD rows 16 noRow) ∷ []) (from + i) (drop i t)) refl)
     where
-      go : (w : Walked) → walk (entryOf 16 (getD rows 16 noRow) ∷ []) (from + i) (drop i t) ≡ w
+      go : (w : Walked) → walk (entryAt 16 (getD rows 16 noRow) ∷ []) (from + i) (drop i t) ≡ w
           → cond (eqb (last .number) 0) (record { refusal = none; starts = startsFrom from (take 16 (valuesIn whole)) 0 16; lengths = map length (take 16 (valuesIn whole)) }) (noPlaces last)
           ≡ cond (eqb (last .number) 0) (record { refusal = none; starts = st; lengths = ls }) (noPlaces last)
       go (through ws rest) e =
@@ -264,7 +264,7 @@ module _ (t : List ℕ) (rows : List Row) (from i : ℕ) (st ls : List ℕ) (sev
 
 -- a row is wrong: so is the table
 pub table-wrong : (t : List ℕ) (rows : List Row) (from k i : ℕ) (st ls : List ℕ) → length rows ≡ 17 → k < 16 → Sofar t rows from k i st ls → (x : Refusal)
-    → look (entryOf k (getD rows k noRow)) (drop (suc k) tags) (from + i) (drop i t) ≡ wrong x → tableOf from (from + length t) (walk (entries tags rows) from t) ≡ noPlaces x
+    → look (entryAt k (getD rows k noRow)) (drop (suc k) tags) (from + i) (drop i t) ≡ wrong x → tableOf from (from + length t) (walk (entries tags rows) from t) ≡ noPlaces x
 unfolding tableOf tableRefusal placed onward
 table-wrong t rows from k i st ls seventeen below p x e =
     let w : walk (entries tags rows) from t ≡ stopped x = p .walked ∙ ap (pushAll (p .vs)) (walk-row rows k (from + i) (drop i t) seventeen (omega arith) ∙ ap (onward (walk (entries (drop (suc k) tags) (drop (suc k) rows))) (from + i) (drop i t)) e) in

@@ -7,12 +7,12 @@ use lib.ListN.{length, take, drop}
 use Rattle.edition.specs.declared.Row.{Row}
 use Rattle.rules.specs.declared.values.Verdict.{Verdict}
 use Rattle.rules.specs.declared.values.Verdict.the-variants.{Takes, Outside, Breaks}
-use Rattle.rules.specs.Lists.{among}
+use Rattle.ground.specs.Lists.{among}
 use Rattle.edition.specs.Rows.{tags, tagOf}
 use Rattle.card.specs.declared.Refusal.{Refusal}
 use Rattle.card.specs.declared.Places.{Places}
 use Rattle.card.specs.Refusals.{refuse, refuseLength, orElse}
-use Rattle.card.specs.Rules.{Entry, entries}
+use Rattle.card.specs.Rules.{Entry, entryOf, entries}
 use Rattle.card.specs.Walk.{Seen, absent, there, wrong, Walked, walk}
 use Rattle.card.specs.Reading.{objectsRefusal, restIn, valuesIn, restRefusal}
 use Rattle.card.specs.Places.{noPlaces, placed}
@@ -21,11 +21,11 @@ use Rattle.objects.specs.declared.standing.Found.the-variants.{Object, R
 use Rattle.objects.specs.declared.standing.Met.{Met}
 use Rattle.objects.specs.declared.standing.Met.the-variants.{Absent, There, Wrong}
 
-abbrev pub entryOf : ℕ → Row → Entry
-entryOf k r = record { tag = tagOf k; row = r }
+abbrev pub entryAt : ℕ → Row → Entry
+entryAt k r = entryOf (tagOf k) r
 
 -- the object reader's answer in the document's numbers: an object's tag, where its value begins and how long it is; or number, place and tag of a refusal
-pub record Told : Type 0 where
+pub record ToldFound : Type 0 where
   pub refused : Bool
   pub number : ℕ
   pub place : ℕ
@@ -34,9 +34,9 @@ pub record Told : Type 0 where
   pub start : ℕ
   pub length : ℕ
 
-abbrev pub told : Found → Told
-told (Object k start n) = record { refused = false; number = 0; place = 0; tag = tagOf k; row = k; start = start; length = n }
-told (Refused x place tag) = record { refused = true; number = x; place = place; tag = tag; row = 0; start = 0; length = 0 }
+abbrev pub foundTold : Found → ToldFound
+foundTold (Object k start n) = record { refused = false; number = 0; place = 0; tag = tagOf k; row = k; start = start; length = n }
+foundTold (Refused x place tag) = record { refused = true; number = x; place = place; tag = tag; row = 0; start = 0; length = 0 }
 
 -- what row k's object, whose tag stands at `at`, is in numbers; one that stands is not absent
 unfoldable pub foundOf : ℕ → ℕ → Seen → Found
@@ -56,13 +56,13 @@ here k [] = false
 here k (b ∷ bs) = eqb b (tagOf k)
 
 -- the required row k is passed over: 5 where the byte met is no tag of a later row, else 6; at the end no tag is due
-abbrev pub missing : ℕ → ℕ → List ℕ → Refusal
-missing k at [] = refuse 6 at (tagOf k)
-missing k at (b ∷ bs) = cond (among b (drop (suc k) tags)) (refuse 6 at (tagOf k)) (refuse 5 at 0)
+abbrev pub passedOver : ℕ → ℕ → List ℕ → Refusal
+passedOver k at [] = refuse 6 at (tagOf k)
+passedOver k at (b ∷ bs) = cond (among b (drop (suc k) tags)) (refuse 6 at (tagOf k)) (refuse 5 at 0)
 
 -- a refusal with its ends, those of the row's set with number 7
-unfoldable pub refusalOf : ℕ → ℕ → ℕ → ℕ → Refusal
-refusalOf lengths number place tag = cond (eqb number 7) (refuseLength place tag lengths) (refuse number place tag)
+unfoldable pub withEnds : ℕ → ℕ → ℕ → ℕ → Refusal
+withEnds lengths number place tag = cond (eqb number 7) (refuseLength place tag lengths) (refuse number place tag)
 
 -- what a row that sees x meets
 unfoldable pub metOf : ℕ → Seen → Met

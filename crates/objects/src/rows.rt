@@ -16,7 +16,7 @@ ghost use Rattle.card.specs.Reading.{restRefusal};
 ghost use Rattle.card.specs.Places.{noPlaces};
 ghost use mathlib.Core.Bool.{cond};
 ghost use lib.Dec.{eqb};
-ghost use Rattle.objects.specs.Objects.{entryOf, tableRefusal, tableOf};
+ghost use Rattle.objects.specs.Objects.{entryAt, tableRefusal, tableOf};
 
 // 12, where so many bytes are left at `at`.
 fn refuse_rest(left: usize, at: usize) -> Refusal
@@ -32,7 +32,7 @@ fn refuse_rest(left: usize, at: usize) -> Refusal
 // What the last row, that of the checksum, and the bytes behind it are refused with.
 fn refuse_last(part: &[u8], at: usize, row: Row) -> Refusal
     requires { ⌜ at + length (now part) ≤ 255 ⌝ }
-    ensures { λ r. ⌜ r ≡ tableRefusal (at + length (now (part .entry))) (walk (entryOf 16 row ∷ []) at (now (part .entry))) ⌝ }
+    ensures { λ r. ⌜ r ≡ tableRefusal (at + length (now (part .entry))) (walk (entryAt 16 row ∷ []) at (now (part .entry))) ⌝ }
 {
     match meet_row(part, at, 16, row) {
         Met::Absent => refuse_rest(part.len(), at),

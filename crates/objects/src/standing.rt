@@ -5,11 +5,11 @@ use rules::Verdict;
 ghost use mathlib.Core.Path.{_≡_};
 ghost use Prim.Native.Nat.{suc, _+_, _<_, _≤_};
 ghost use lib.ListN.{length, drop};
-ghost use Rattle.rules.specs.Lists.{among};
-ghost use Rattle.rules.specs.Values.{told as verdictTold};
+ghost use Rattle.ground.specs.Lists.{among};
+ghost use Rattle.rules.specs.Values.{verdictTold};
 ghost use Rattle.edition.specs.Rows.{tags};
 ghost use Rattle.card.specs.Walk.{objectAt, look};
-ghost use Rattle.objects.specs.Objects.{told, entryOf, valued, foundOf, here, missing, refusalOf, metOf};
+ghost use Rattle.objects.specs.Objects.{foundTold, entryAt, valued, foundOf, here, passedOver, withEnds, metOf};
 
 // What the object reader answers.
 enum Found {
@@ -53,7 +53,7 @@ fn is_later(k: usize, b: u8) -> bool
 // What the required row k is refused with where a part begins with another tag than its own, or is at its end.
 fn refuse_missing(part: &[u8], at: usize, k: usize) -> Refusal
     requires { ⌜ k < 17 ⌝ }
-    ensures { λ r. ⌜ r ≡ missing k at (now (part .entry)) ⌝ }
+    ensures { λ r. ⌜ r ≡ passedOver k at (now (part .entry)) ⌝ }
 {
     if part.len() == 0 {
         return Refusal::new(6, at, edition::tag_of(k));
@@ -68,7 +68,7 @@ fn refuse_missing(part: &[u8], at: usize, k: usize) -> Refusal
 // The answer for row k's value, by how it stands to its rule.
 fn weigh(k: usize, start: usize, n: usize, verdict: Verdict) -> Found
     requires { ⌜ start + verdictTold verdict .index < 65536 ⌝ }
-    ensures { λ r. ⌜ told r ≡ told (valued k start n verdict) ⌝ }
+    ensures { λ r. ⌜ foundTold r ≡ foundTold (valued k start n verdict) ⌝ }
 {
     match verdict {
         Verdict::Takes => Found::Object {
@@ -92,7 +92,7 @@ fn weigh(k: usize, start: usize, n: usize, verdict: Verdict) -> Found
 // Row k's object, whose tag stands at `at`; the part begins behind it.
 fn read_object(part: &[u8], at: usize, k: usize, row: Row) -> Found
     requires { ⌜ at + length (now part) ≤ 255 ⌝ }
-    ensures { λ r. ⌜ told r ≡ told (foundOf k at (objectAt (entryOf k row) at (now (part .entry)))) ⌝ }
+    ensures { λ r. ⌜ foundTold r ≡ foundTold (foundOf k at (objectAt (entryAt k row) at (now (part .entry)))) ⌝ }
 {
     if part.len() == 0 {
         return Found::Refused {
@@ -124,7 +124,7 @@ fn read_object(part: &[u8], at: usize, k: usize, row: Row) -> Found
 
 // A refusal of the object reader, with the ends of the row's set where the number is 7.
 fn refuse(lengths: u32, number: u8, place: usize, tag: u8) -> Refusal
-    ensures { λ r. ⌜ r ≡ refusalOf lengths number place tag ⌝ }
+    ensures { λ r. ⌜ r ≡ withEnds lengths number place tag ⌝ }
 {
     if number == 7 {
         Refusal::of_length(place, tag, lengths)
@@ -143,7 +143,7 @@ pub(crate) enum Met {
 // What row k meets at `at`, where a part is left of the template.
 pub(crate) fn meet_row(part: &[u8], at: usize, k: usize, row: Row) -> Met
     requires { ⌜ (at + length (now part) ≤ 255) × (k < 17) ⌝ }
-    ensures { λ r. ⌜ r ≡ metOf at (look (entryOf k row) (drop (suc k) tags) at (now (part .entry))) ⌝ }
+    ensures { λ r. ⌜ r ≡ metOf at (look (entryAt k row) (drop (suc k) tags) at (now (part .entry))) ⌝ }
 {
     if is_here(part, k) {
         return match read_object(&part[1..], at, k, row) {

@@ -14,7 +14,7 @@ use Rattle.edition.specs.Rows.{formedFrom}
 use Rattle.card.specs.declared.Refusal.{Refusal}
 use Rattle.card.specs.declared.Places.{Places}
 use Rattle.card.specs.Refusals.{none, orElse, badRow}
-use Rattle.card.specs.Fields.{told}
+use Rattle.card.specs.Fields.{fieldTold}
 use Rattle.card.specs.Layout.{tagAt}
 use Rattle.card.specs.Sums.{sumsRefusal, tagBefore}
 use Rattle.card.specs.Frame.{fieldWrong, fieldOf, startOf, endOf, objectsIn}
@@ -133,6 +133,6 @@ pub listed-is : (e : Edition) (s : List ℕ) → length s ≡ 256 → fieldWrong
     → listed (take (endOf s - startOf s) (drop (startOf s) s)) (e .rows) (startOf s) ≡ tableOf (startOf s) (endOf s) (walkOf e s)
 unfolding listed endOf
 listed-is e s long right =
-    let size = told (fieldOf s) .length in
+    let size = fieldTold (fieldOf s) .length in
     let n : length (objectsIn s) ≡ size = length-take-le size (drop (startOf s) s) (omega (arith, length-drop (startOf s) s, framed s long right .most)) in
     rw (← template-is s long right, le-leb (startOf s) 33 (start-most s long right), le-leb (length (objectsIn s)) 212 (omega (arith, size-most s long right)), n)

@@ -14,7 +14,7 @@ use Rattle.edition.proofs.Rows.{formed-within, permits-most}
 use Rattle.card.specs.declared.Refusal.{Refusal}
 use Rattle.card.specs.declared.Places.{Places}
 use Rattle.card.specs.Refusals.{none}
-use Rattle.card.specs.Fields.{told}
+use Rattle.card.specs.Fields.{fieldTold}
 use Rattle.card.specs.Content.{Content, recordOf, emptyRecord}
 use Rattle.card.specs.Layout.{object, body, objectTags, tagAt}
 use Rattle.card.specs.Rules.{entries, AllMet, none-left, one-more}
@@ -71,10 +71,10 @@ module _ (e : Edition) (s : List ℕ) (t : Through e s) where
   abbrev ls : List ℕ
   ls = map length vs
 
-  behind-start : drop (startOf s) s ≡ body objectTags vs ++ ((0x8E ∷ 1 ∷ t .k ∷ []) ++ drop (told (fieldOf s) .length) (drop (startOf s) s))
+  behind-start : drop (startOf s) s ≡ body objectTags vs ++ ((0x8E ∷ 1 ∷ t .k ∷ []) ++ drop (fieldTold (fieldOf s) .length) (drop (startOf s) s))
   behind-start =
-      sym (take-append-drop (told (fieldOf s) .length) (drop (startOf s) s))
-      ∙ ap (λ (l : List ℕ). l ++ drop (told (fieldOf s) .length) (drop (startOf s) s)) (t .bytes)
+      sym (take-append-drop (fieldTold (fieldOf s) .length) (drop (startOf s) s))
+      ∙ ap (λ (l : List ℕ). l ++ drop (fieldTold (fieldOf s) .length) (drop (startOf s) s)) (t .bytes)
       ∙ append-assoc (body objectTags vs) (0x8E ∷ 1 ∷ t .k ∷ []) _
 
   start-is : (k : ℕ) → k < 16 → getD st k 0 ≡ startAt (startOf s) vs k

@@ -1,3 +1,2 @@
 -- The laws of the definitions.
-pub mod Lists
 pub mod Verdicts

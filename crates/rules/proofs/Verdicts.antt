@@ -10,17 +10,17 @@ use lib.ListN.{length, getD}
 use Rattle.rules.specs.declared.Rule.{Rule}
 use Rattle.rules.specs.declared.values.Verdict.{Verdict}
 use Rattle.rules.specs.declared.values.Verdict.the-variants.{Takes, Outside, Breaks}
-use Rattle.rules.specs.Lists.{among, leading}
+use Rattle.ground.specs.Lists.{among, leading}
 use Rattle.rules.specs.declared.Rule.the-variants.{Digits, Text, Lead, Code, Birth, Expiry, Raw}
 use Rattle.rules.specs.Characters.{charactersOf, hasByte}
-use Rattle.rules.specs.Values.{isDigit, isText, takes, holds, judged, Told, told, bySense}
-use Rattle.rules.proofs.Lists.{true-false, alike-below, leading-before, leading-at, leading-alike}
+use Rattle.rules.specs.Values.{isDigit, isText, takes, holds, judged, ToldVerdict, verdictTold, bySense}
+use Rattle.ground.proofs.Lists.{true-false, alike-below, leading-before, leading-at, leading-alike}
 
 -- no two verdicts are told alike
-pub told-apart : (a b : Verdict) → told a ≡ told b → a ≡ b
-told-apart a b e = go a b (ap (λ (t : Told). t .number) e) (ap (λ (t : Told). t .index) e)
+pub told-apart : (a b : Verdict) → verdictTold a ≡ verdictTold b → a ≡ b
+told-apart a b e = go a b (ap (λ (t : ToldVerdict). t .number) e) (ap (λ (t : ToldVerdict). t .index) e)
   where
-    go : (a b : Verdict) → told a .number ≡ told b .number → told a .index ≡ told b .index → a ≡ b
+    go : (a b : Verdict) → verdictTold a .number ≡ verdictTold b .number → verdictTold a .index ≡ verdictTold b .index → a ≡ b
     go Takes Takes n i = refl
     go Takes (Outside k) n i = absurd (omega arith)
     go Takes Breaks n i = absurd (omega arith)

@@ -8,19 +8,19 @@ use Rattle.rules.specs.declared.Rule.{Rule}
 use Rattle.rules.specs.declared.Rule.the-variants.{Digits, Text, Lead, Code, Birth, Expiry, Raw}
 use Rattle.rules.specs.declared.values.Verdict.{Verdict}
 use Rattle.rules.specs.declared.values.Verdict.the-variants.{Takes, Outside, Breaks}
-use Rattle.rules.specs.Lists.{among, leading}
+use Rattle.ground.specs.Lists.{among, leading}
 
-abbrev pub within : ℕ → ℕ → ℕ → Bool
-within a b x = leb a x && leb x b
+abbrev pub between : ℕ → ℕ → ℕ → Bool
+between a b x = leb a x && leb x b
 
 -- Digits: '30'-'39'
 abbrev pub isDigit : ℕ → Bool
-isDigit b = within 0x30 0x39 b
+isDigit b = between 0x30 0x39 b
 
 -- Text: digits, A-Z, a-z, the DIN 66003 letters, and ten signs more
 unfoldable pub isText : ℕ → Bool
 isText b =
-    isDigit b || within 0x41 0x5A b || within 0x61 0x7A b
+    isDigit b || between 0x41 0x5A b || between 0x61 0x7A b
     || among b (0x5B ∷ 0x5C ∷ 0x5D ∷ 0x7B ∷ 0x7C ∷ 0x7D ∷ 0x7E ∷ [])
     || among b (0x20 ∷ 0x26 ∷ 0x27 ∷ 0x28 ∷ 0x29 ∷ 0x2B ∷ 0x2D ∷ 0x2E ∷ 0x2F ∷ 0x5F ∷ [])
 
@@ -83,11 +83,11 @@ judged rule v =
     (cond (holds rule v) Takes Breaks)
 
 -- a verdict in the document's numbers: 0 where the value is taken, 9 with the index, 10
-pub record Told : Type 0 where
+pub record ToldVerdict : Type 0 where
   pub number : ℕ
   pub index : ℕ
 
-abbrev pub told : Verdict → Told
-told Takes = record { number = 0; index = 0 }
-told (Outside i) = record { number = 9; index = i }
-told Breaks = record { number = 10; index = 0 }
+abbrev pub verdictTold : Verdict → ToldVerdict
+verdictTold Takes = record { number = 0; index = 0 }
+verdictTold (Outside i) = record { number = 9; index = i }
+verdictTold Breaks = record { number = 10; index = 0 }

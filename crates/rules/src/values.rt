@@ -2,10 +2,9 @@
 use crate::Rule;
 ghost use mathlib.Core.Path.{_≡_};
 ghost use mathlib.Core.Bool.{false};
-ghost use lib.ListN.{getD};
-ghost use Rattle.rules.specs.Lists.{leading};
+ghost use Rattle.ground.specs.Lists.{leading};
 ghost use Rattle.rules.specs.Characters.{charactersOf, hasByte};
-ghost use Rattle.rules.specs.Values.{byClass, takes, isLead, isCode, two, isBirth, isExpiry, bySense, holds, judged, told};
+ghost use Rattle.rules.specs.Values.{byClass, takes, isLead, isCode, two, isBirth, isExpiry, bySense, holds, judged, verdictTold};
 
 // How a value stands to its rule.
 pub enum Verdict {
@@ -147,19 +146,12 @@ fn is_plain(rule: Rule) -> bool
     by_sense(rule, false, false, false, false)
 }
 
-// The byte at i, and 0 past the end.
-fn byte_at(v: &[u8], i: usize) -> u8
-    ensures { λ r. ⌜ r ≡ getD (now (v .entry)) i 0 ⌝ }
-{
-    if i < v.len() { v[i] } else { 0 }
-}
-
 fn holds_for(rule: Rule, v: &[u8]) -> bool
     ensures { λ r. ⌜ r ≡ holds rule (now (v .entry)) ⌝ }
 {
-    let first = byte_at(v, 0);
-    let leading = two_of(first, byte_at(v, 1));
-    let next = two_of(byte_at(v, 2), byte_at(v, 3));
+    let first = ground::byte_at(v, 0);
+    let leading = two_of(first, ground::byte_at(v, 1));
+    let next = two_of(ground::byte_at(v, 2), ground::byte_at(v, 3));
     by_sense(
         rule,
         is_lead(first),
@@ -186,7 +178,7 @@ fn count_taken(rule: Rule, v: &[u8]) -> usize
 
 // Whether a rule takes a value, or what is wrong with it.
 pub fn judge(rule: Rule, v: &[u8]) -> Verdict
-    ensures { λ r. ⌜ told r ≡ told (judged rule (now (v .entry))) ⌝ }
+    ensures { λ r. ⌜ verdictTold r ≡ verdictTold (judged rule (now (v .entry))) ⌝ }
 {
     let n = count_taken(rule, v);
     if n < v.len() {

@@ -13,7 +13,7 @@ use Rattle.edition.specs.declared.Edition.{Edition}
 use Rattle.edition.specs.Sets.{permitted}
 use Rattle.rules.specs.Values.{judged}
 use Rattle.edition.specs.Rows.{tags, formedFrom, noRow}
-use Rattle.rules.proofs.Lists.{and-right}
+use Rattle.ground.proofs.Lists.{and-right}
 use Rattle.edition.proofs.Rows.{formed-within, permits-most}
 use Rattle.card.specs.declared.Object.{Object}
 use Rattle.card.specs.declared.Record.{Record}
@@ -22,10 +22,10 @@ use Rattle.card.specs.Content.{Content, valueOf, contentOf}
 use Rattle.card.specs.Layout.{templateLength, objectTags, objectsOf, layout}
 use Rattle.card.specs.Refusals.{none, gate, refuse}
 use Rattle.card.specs.Rules.{entries, length-out, ofVerdict, fault}
-use Rattle.card.specs.Refusing.{rowRefusal, rowsRefusal, templateRefusal, refusal}
-use Rattle.card.specs.Writing.{refusalOf, bufferAfter}
-use Rattle.checks.specs.Checking.{entryOf}
-use Rattle.checks.specs.Checking.{absent}
+use Rattle.card.specs.Refusing.{rowRefusal, rowsRefusal, templateRefusal, writeRefusal}
+use Rattle.card.specs.Writing.{recordRefusal, bufferAfter}
+use Rattle.card.specs.Rules.{entryOf}
+use Rattle.card.specs.Content.{noObject}
 use Rattle.writer.specs.Storing.{Storable}
 use Rattle.checks.proofs.Items.{claim-short}
 use Rattle.card.proofs.Chains.{neither, table-well}
@@ -44,7 +44,7 @@ row-short t r (b ∷ v) h e = go (permitted (r .lengths) (length (b ∷ v))) ref
 
 all-short : (ts : List ℕ) (rs : List Row) (os : List Object) → length os ≤ length ts → length os ≤ length rs
     → ((i : ℕ) → i < length rs → getD rs i noRow .lengths < 2 ^ 29) → rowsRefusal (entries ts rs) (map valueOf os) .number ≡ 0
-    → (i : ℕ) → getD os i absent .length ≤ 28
+    → (i : ℕ) → getD os i noObject .length ≤ 28
 unfolding entries rowsRefusal
 all-short ts rs [] ht hr below e i = omega arith
 all-short [] rs (o ∷ os) ht hr below e i = absurd (omega arith)
@@ -68,14 +68,14 @@ template-allowed c e = go (leb 70 (templateLength (objectsOf c)) && leb (templat
     go true p z = leb-true _ _ (and-right (leb 70 (templateLength (objectsOf c))) (leb (templateLength (objectsOf c)) 212) p)
     go false p z = absurd (omega arith)
 
-size-allowed : (e : Edition) (c : Content) (n : ℕ) → refusal e c n .number ≡ 0 → n ≡ 256
+size-allowed : (e : Edition) (c : Content) (n : ℕ) → writeRefusal e c n .number ≡ 0 → n ≡ 256
 size-allowed e c n z = go (eqb n 256) refl
   where
     go : (q : Bool) → eqb n 256 ≡ q → n ≡ 256
     go true p = eqb-true n 256 p
     go false p = absurd (let k = ap (λ (r : Refusal). r .number) (refused-size e c n (eqb-false n 256 p)) in omega arith)
 
-pub accepted : (e : Edition) (r : Record) (n : ℕ) → length (e .rows) ≡ 17 → length (r .objects) ≡ 16 → refusal e (contentOf r) n .number ≡ 0 → Accepted r n
+pub accepted : (e : Edition) (r : Record) (n : ℕ) → length (e .rows) ≡ 17 → length (r .objects) ≡ 16 → writeRefusal e (contentOf r) n .number ≡ 0 → Accepted r n
 unfolding contentOf tags
 accepted e r n hr ho z =
     let s = size-allowed e (contentOf r) n z in
@@ -93,10 +93,10 @@ accepted e r n hr ho z =
     }
 
 -- ---- the buffer
-pub kept : (e : Edition) (r : Record) (b : List ℕ) → (refusalOf e r b .number ≡ 0 → ⊥) → b ≡ bufferAfter e r b
+pub kept : (e : Edition) (r : Record) (b : List ℕ) → (recordRefusal e r b .number ≡ 0 → ⊥) → b ≡ bufferAfter e r b
 unfolding bufferAfter
-kept e r b h = rw (ne-eqb (refusalOf e r b .number) 0 h)
+kept e r b h = rw (ne-eqb (recordRefusal e r b .number) 0 h)
 
-pub written : (e : Edition) (r : Record) (b : List ℕ) → refusalOf e r b .number ≡ 0 → layout (contentOf r) ≡ bufferAfter e r b
+pub written : (e : Edition) (r : Record) (b : List ℕ) → recordRefusal e r b .number ≡ 0 → layout (contentOf r) ≡ bufferAfter e r b
 unfolding bufferAfter
-written e r b h = rw (eq-eqb (refusalOf e r b .number) 0 h)
+written e r b h = rw (eq-eqb (recordRefusal e r b .number) 0 h)

@@ -8,7 +8,7 @@ use lib.Seq.{sets}
 use Rattle.card.specs.Fields.{lengthField}
 use Rattle.card.specs.Layout.{spaces, lasts, filler}
 use Rattle.card.proofs.Room.{room}
-use Rattle.card.proofs.Stores.{sets-then, sets-whole}
+use Rattle.ground.proofs.Stores.{sets-then, sets-whole}
 
 -- where the spaces begin and end, once the length is written
 pub record Placed (t n start : ℕ) : Type 0 where
@@ -23,11 +23,10 @@ placed t n start h k e f =
     record { n-is = e; start-is = f; ends = omega (arith, r .whole) }
 
 pub filled : (p : List ℕ) {l₁ l₂ l₃ : List ℕ} (t n start end last : ℕ) → Placed t n start → length p ≡ t + 1 → end ≡ start + n
-    → l₁ ≡ sets (set p 0 0xC0) 1 (lengthField n) → l₂ ≡ sets l₁ start (replicate (end - start) 0x20) → l₃ ≡ sets l₂ end (replicate (length p - end) last)
+    → l₁ ≡ sets (set p 0 0xC0) 1 (lengthField n) → l₂ ≡ sets l₁ start (replicate n 0x20) → l₃ ≡ sets l₂ end (replicate (length p - end) last)
     → l₃ ≡ filler t last
 unfolding filler
 filled p t n start end last r hp he e₁ e₂ e₃ =
-    let a₁ : end - start ≡ n = omega arith in
     let a₂ : length p - end ≡ lasts t = omega (arith, r .ends) in
     let x₁ : List ℕ = 0xC0 ∷ lengthField n in
     let x₂ : List ℕ = x₁ ++ replicate n 0x20 in
@@ -35,7 +34,7 @@ filled p t n start end last r hp he e₁ e₂ e₃ =
     let g₁ : start ≡ 0 + length x₁ = omega (arith, r .start-is) in
     let g₂ : end ≡ 0 + length x₂ = simp (length-append, length-replicate) (omega arith) in
     let g₃ : length x₃ ≡ length p = simp (length-append, length-replicate) (omega (arith, r .ends)) in
-    let d₂ = rw a₁ at e₂ ∙ sets-then p x₁ 0 (replicate n 0x20) e₁ g₁ in
+    let d₂ = e₂ ∙ sets-then p x₁ 0 (replicate n 0x20) e₁ g₁ in
     let d₃ = rw a₂ at e₃ ∙ sets-then p x₂ 0 (replicate (lasts t) last) d₂ g₂ in
     let same : x₃ ≡ filler t last =
     ap (λ (k : ℕ). (0xC0 ∷ lengthField k) ++ replicate k 0x20 ++ replicate (lasts t) last) (r .n-is)

@@ -6,7 +6,7 @@ use native.Mathlib.Omega.{arith}
 use lib.ListN.{length, getD, take, drop, set, length-append, drop-of-length-le}
 use lib.Seq.{sets, length-take-le, drop-cons}
 use Rattle.card.specs.Layout.{identifier, head}
-use Rattle.card.proofs.Stores.{sets-then}
+use Rattle.ground.proofs.Stores.{sets-then}
 
 -- the twelfth free byte is the last
 last-free : (free : List ℕ) → length free ≡ 12 → drop 11 free ≡ getD free 11 0 ∷ []

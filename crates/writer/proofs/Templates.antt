@@ -9,7 +9,7 @@ use lib.Seq.{sets}
 use Rattle.card.specs.Content.{Content}
 use Rattle.card.specs.Fields.{lengthField}
 use Rattle.card.specs.Layout.{head, templateLength, summed, xorAll, template, filler, objectsOf, layout}
-use Rattle.card.proofs.Stores.{sets-then, stored, stored-first}
+use Rattle.ground.proofs.Stores.{sets-then, stored, stored-first}
 use Rattle.writer.proofs.Heading.{head-long}
 use Rattle.card.proofs.Layouts.{length-field}
 

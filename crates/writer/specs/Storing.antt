@@ -6,11 +6,11 @@ use Rattle.card.specs.declared.Object.{Object}
 use Rattle.card.specs.declared.Record.{Record}
 use Rattle.card.specs.Content.{contentOf}
 use Rattle.card.specs.Layout.{templateLength, objectsOf}
-use Rattle.checks.specs.Checking.{absent}
+use Rattle.card.specs.Content.{noObject}
 
 -- no object claims more than its 28 bytes
 abbrev pub Short : List Object → Type 0
-Short os = (i : ℕ) → getD os i absent .length ≤ 28
+Short os = (i : ℕ) → getD os i noObject .length ≤ 28
 
 pub record Storable (r : Record) : Type 0 where
   pub short : Short (r .objects)

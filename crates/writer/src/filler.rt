@@ -1,5 +1,5 @@
 // The filler and the last bytes.
-use crate::bytes;
+use crate::fields::write_length;
 ghost use mathlib.Core.Path.{_≡_};
 ghost use Prim.Native.Nat.{_-_, _≤_};
 ghost use lib.ListN.{length};
@@ -14,8 +14,7 @@ pub(crate) fn write_filler(part: &mut [u8], last: u8)
     let t = size - 1;
     let count = card::count_spaces(t);
     part[0] = 0xC0;
-    let start = bytes::write_length(part, 1, count);
-    let end = start + count;
-    bytes::fill(part, start, end, 0x20);
-    bytes::fill(part, end, size, last);
+    let start = write_length(part, 1, count);
+    let end = ground::fill(part, start, count, 0x20);
+    ground::fill(part, end, size - end, last);
 }

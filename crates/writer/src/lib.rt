@@ -1,8 +1,10 @@
-// The writer: a record becomes the 256 bytes of a card, or is refused.
-mod bytes;
+// The writer: a record becomes the 256 bytes of a card, or is refused and the buffer is left as it is.
+// Any edition, record and buffer may be lent.
+// Nothing is written before all is checked, and the checksum is computed here: no entry point takes it.
+mod body;
+mod fields;
 mod filler;
 mod head;
-mod objects;
 mod template;
 
 use card::Record;
@@ -12,12 +14,12 @@ ghost use mathlib.Core.Path.{_≡_};
 ghost use lib.ListN.{length};
 ghost use Rattle.card.specs.Content.{contentOf};
 ghost use Rattle.card.specs.Layout.{layout};
-ghost use Rattle.card.specs.Writing.{refusalOf, bufferAfter};
+ghost use Rattle.card.specs.Writing.{recordRefusal, bufferAfter};
 ghost use Rattle.writer.specs.Storing.{Storable};
 
 // Writes a record into a buffer of 256 bytes, or says why not and leaves the buffer as it is.
 pub fn write(edition: Edition, content: Record, buffer: &mut [u8]) -> Refusal
-    ensures { λ r. ⌜ r ≡ refusalOf edition content (now (buffer .entry)) ⌝ }
+    ensures { λ r. ⌜ r ≡ recordRefusal edition content (now (buffer .entry)) ⌝ }
     ensures { λ _. ⌜ now (buffer .exit) ≡ bufferAfter edition content (now (buffer .entry)) ⌝ }
 {
     let refusal = checks::check(edition, content, buffer.len());

@@ -1,6 +1,6 @@
 // The template: its tag and length, the objects, the checksum.
-use crate::bytes;
-use crate::objects;
+use crate::body;
+use crate::fields::write_length;
 use card::Record;
 ghost use mathlib.Core.Path.{_≡_};
 ghost use Prim.Native.Nat.{_+_};
@@ -18,8 +18,8 @@ pub(crate) fn write_template(buffer: &mut [u8], content: Record) -> usize
 {
     let size = checks::objects_size(content);
     buffer[30] = 0x60;
-    let start = bytes::write_length(buffer, 31, size + 3);
-    let end = objects::write_objects(buffer, start, content);
+    let start = write_length(buffer, 31, size + 3);
+    let end = body::write_objects(buffer, start, content);
     buffer[end] = 0x8E;
     buffer[end + 1] = 0x01;
     let place = end + 2;

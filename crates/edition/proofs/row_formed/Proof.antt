@@ -1,4 +1,4 @@
--- `edition::row_formed` meets its contract. Assumes nothing.
+-- `edition::row_formed` meets its contract: a set within 2 ^ 29 has no bit above 28, and one without bit 0 permits no length 0. Assumes nothing.
 use borrow.Author.Needs.{needs}
 use Rattle.edition.proofs.row_formed.Statement.{statement}
 use Rattle.edition.proofs.row_formed.Tie as tie

@@ -7,7 +7,6 @@ use lib.ListN.{length}
 use lib.Seq.{length-take-le}
 use borrow.Author.Tests.{lt-leb, le-leb}
 use Rattle.listing.proofs.Shown.{listed}
-use Rattle.listing.proofs.Puts.{put-same}
 use borrow.Author.Needs.{needs}
 use Rattle.listing.proofs.list.Statement.{statement}
 use Rattle.listing.proofs.list.Tie as tie
@@ -31,7 +30,7 @@ returns-2 c =
     let done = c .before .before in
     let read = done .before in
     let a = read .before .before .before .before .before .args in
-    let put = put-same (listed (a .edition) (a .image .now) (read .read .result) (read .read .ensures)) (done .put-reading .ensures .0) in
+    let put = rw (listed (a .edition) (a .image .now) (read .read .result) (read .read .ensures)) at (done .put-reading .ensures .0) in
     let large = le-leb 521 (length (a .room .now)) (omega arith) in
     let fits : done .put-reading .result ≤ length (done .put-reading .last .0) = omega (arith, done .put-reading .ensures .1) in
     (rw large (put .place ∙ zero-add _), (rw large (put .stored), (fits, sym (length-take-le _ _ fits))))

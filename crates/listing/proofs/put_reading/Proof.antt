@@ -2,7 +2,7 @@
 use native.Mathlib.Omega.{arith}
 use borrow.Author.Tests.{eq-eqb, ne-eqb}
 use Rattle.listing.specs.Listing.{listing}
-use Rattle.listing.proofs.Puts.{put-then}
+use Rattle.ground.proofs.Puts.{put-then}
 use borrow.Author.Needs.{needs}
 use Rattle.listing.proofs.put_reading.Statement.{statement}
 use Rattle.listing.proofs.put_reading.Tie as tie

@@ -4,7 +4,7 @@ use borrow.Author.Tests.{leb-true}
 use lib.Dec.{leb}
 use lib.ListN.{length}
 use denote.Ref.{now}
-use Rattle.rules.proofs.Lists.{and-left, and-right}
+use Rattle.ground.proofs.Lists.{and-left, and-right}
 use Rattle.card.specs.Places.{noPlaces}
 use Rattle.objects.specs.Objects.{listed}
 use borrow.Author.Needs.{needs}

@@ -2,7 +2,7 @@
 use mathlib.Core.Path.{_≡_, sym, ap, _∙_}
 use lib.ListN.{length, length-map}
 use Rattle.card.specs.declared.Refusal.{Refusal}
-use Rattle.card.specs.Writing.{refusalOf}
+use Rattle.card.specs.Writing.{recordRefusal}
 use Rattle.writer.proofs.Accepted.{Accepted, accepted, kept, written}
 use borrow.Author.Needs.{needs}
 use Rattle.writer.proofs.write.Statement.{statement}
@@ -24,7 +24,7 @@ sixteen : (c : tie.Start) → length (c .args .content .objects) ≡ 16
 sixteen c = simp length-map at (c .good .1 .0 .1 .1 .1 .1 .1 .0 .1 .0 .1)
 
 zero : (c : tie.Else1)
-    → refusalOf (c .before .before .before .before .args .edition) (c .before .before .before .before .args .content) (c .before .before .before .before .args .buffer .now) .number ≡ 0
+    → recordRefusal (c .before .before .before .before .args .edition) (c .before .before .before .before .args .content) (c .before .before .before .before .args .buffer .now) .number ≡ 0
 zero c = ap (λ (r : Refusal). r .number) (sym (c .before .before .check .ensures)) ∙ c .if1 .left
 
 taken : (c : tie.Else1) → Accepted (c .before .before .before .before .args .content) (length (c .before .before .before .before .args .buffer .now))

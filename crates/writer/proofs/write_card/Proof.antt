@@ -6,7 +6,7 @@ use native.Mathlib.Omega.{arith}
 use lib.ListN.{length, take, drop}
 use Rattle.card.specs.Content.{contentOf}
 use Rattle.card.specs.Layout.{filler, objectsOf}
-use Rattle.card.proofs.Stores.{lent-end-length, lent-end-back}
+use Rattle.ground.proofs.Stores.{lent-end-length, lent-end-back}
 use Rattle.writer.proofs.Templates.{template-most, laid-out}
 use borrow.Author.Needs.{needs}
 use Rattle.writer.proofs.write_card.Statement.{statement}

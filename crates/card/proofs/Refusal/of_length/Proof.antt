@@ -1,4 +1,4 @@
--- `Refusal::of_length` meets its contract. Assumes nothing.
+-- `Refusal::of_length` meets its contract: the ends told are those of the set handed in. Assumes nothing.
 use borrow.Author.Needs.{needs}
 use Rattle.card.proofs.Refusal.of_length.Statement.{statement}
 use Rattle.card.proofs.Refusal.of_length.Tie as tie

@@ -1,4 +1,4 @@
--- `card::ends::allows_first` meets its contract. Assumes nothing.
+-- `card::ends::allows_first` meets its contract: the three bytes are compared in the order of the definition. Assumes nothing.
 use mathlib.Core.Path.{refl}
 use Rattle.card.specs.Rules.{firstAllowed}
 use Rattle.card.proofs.ends.allows_first.Statement.{statement}

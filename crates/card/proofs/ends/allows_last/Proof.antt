@@ -1,4 +1,4 @@
--- `card::ends::allows_last` meets its contract. Assumes nothing.
+-- `card::ends::allows_last` meets its contract: 'FF' is asked only behind '82', as in the definition. Assumes nothing.
 use mathlib.Core.Path.{refl}
 use Rattle.card.specs.Rules.{lastAllowed}
 use Rattle.card.proofs.ends.allows_last.Statement.{statement}

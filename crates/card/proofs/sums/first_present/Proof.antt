@@ -1,11 +1,11 @@
 -- `card::sums::first_present` meets its contract. The invariant: what is passed with what is left makes the whole. Assumes nothing.
 use mathlib.Core.Path.{_≡_, refl, sym, _∙_}
-use Prim.Native.Nat.{_+_, _-_, _≤_}
+use Prim.Native.Nat.{_-_, _≤_}
 use native.Mathlib.Omega.{arith}
 use borrow.Author.Needs.{needs}
 use borrow.Author.Tests.{eq-eqb, ne-eqb}
 use lib.ListN.{length}
-use Rattle.rules.proofs.Lists.{leading-pass, leading-stop, leading-end}
+use Rattle.ground.proofs.Lists.{leading-pass, leading-stop, leading-end}
 use Rattle.card.specs.Rules.{isZero, firstPresent}
 use Rattle.card.proofs.sums.first_present.Statement.{statement}
 use Rattle.card.proofs.sums.first_present.Tie as tie

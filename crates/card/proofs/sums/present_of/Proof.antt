@@ -1,4 +1,4 @@
--- `card::sums::present_of` meets its contract. Assumes nothing.
+-- `card::sums::present_of` meets its contract: a length is 0 or it is not. Assumes nothing.
 use borrow.Author.Tests.{eq-eqb, ne-eqb}
 use Rattle.card.proofs.sums.present_of.Statement.{statement}
 use Rattle.card.proofs.sums.present_of.Tie as tie

@@ -1,4 +1,4 @@
--- `card::sums::refuse_group` meets its contract. Assumes nothing.
+-- `card::sums::refuse_group` meets its contract: the group's first present object gives place and tag; none is refused where the sum fits. Assumes nothing.
 use borrow.Author.Needs.{needs}
 use Rattle.card.proofs.sums.refuse_group.Statement.{statement}
 use Rattle.card.proofs.sums.refuse_group.Tie as tie

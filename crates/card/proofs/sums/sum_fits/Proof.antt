@@ -1,4 +1,4 @@
--- `card::sums::sum_fits` meets its contract. Assumes nothing.
+-- `card::sums::sum_fits` meets its contract: how many are present decides which bound is asked. Assumes nothing.
 use Prim.Native.Nat.{_+_}
 use mathlib.Core.Path.{_≡_, sym}
 use native.Mathlib.Omega.{arith}

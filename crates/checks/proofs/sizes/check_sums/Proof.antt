@@ -1,7 +1,7 @@
 -- `checks::sizes::check_sums` meets its contract: where all starts are 0, every place is 0. Assumes nothing.
 use mathlib.Core.Path.{_≡_, refl, ap, _∙_}
 use mathlib.Core.List.{List}
-use Prim.Native.Nat.{ℕ, zero, suc, _-_}
+use Prim.Native.Nat.{ℕ, zero, suc}
 use native.Mathlib.Omega.{arith}
 use lib.ListN.{getD, replicate}
 use Rattle.card.specs.Rules.{firstPresent}

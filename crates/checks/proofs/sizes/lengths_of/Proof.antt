@@ -1,16 +1,13 @@
 -- `checks::sizes::lengths_of` meets its contract. The invariant: below i stand the lengths of the values. Assumes nothing.
 use mathlib.Core.Path.{_≡_, sym, ap, _∙_}
-use mathlib.Core.Bool.{Bool, true, false}
 use mathlib.Core.List.{[], map}
-use Prim.Native.Nat.{ℕ, _+_, _-_, _≤_, _<_}
+use Prim.Native.Nat.{ℕ, _-_, _≤_, _<_}
 use native.Mathlib.Omega.{arith}
 use borrow.Author.Needs.{needs}
-use borrow.Author.Tests.{eqb-true, eqb-false}
-use lib.Dec.{eqb}
 use lib.ListN.{length, getD, length-map, length-set, List·getD-map}
-use lib.Seq.{ext-getD, getD-set-same, getD-set-other}
+use lib.Seq.{ext-getD}
 use Rattle.card.specs.Content.{valueOf, contentOf}
-use Rattle.card.proofs.Stores.{filled-more}
+use Rattle.ground.proofs.Stores.{filled-more}
 use Rattle.checks.proofs.Items.{value-at}
 use Rattle.checks.proofs.sizes.lengths_of.Statement.{statement}
 use Rattle.checks.proofs.sizes.lengths_of.Tie as tie

@@ -1,5 +1,4 @@
--- `corpus::answers::write_hex` is safe and ends. Assumes nothing.
-use native.Mathlib.Omega.{arith}
+-- `corpus::answers::write_hex` is safe and ends: the bytes left grow fewer. Assumes nothing.
 use Prim.Native.Nat.{_-_, _≤_}
 use lib.ListN.{length}
 use borrow.Author.Needs.{needs}
@@ -15,14 +14,14 @@ abbrev μ-loop : tie.MeasureT-loop
 loop-holds : tie.Need-loop-holds Inv-loop μ-loop
 loop-holds c = search needs
 
-shared-slice-read-byte : tie.Need-shared-slice-read-byte Inv-loop μ-loop
-shared-slice-read-byte c = search needs
+slice-aggregate-put-hex : tie.Need-slice-aggregate-put-hex Inv-loop μ-loop
+slice-aggregate-put-hex c = search needs
 
-hex-digit-requires : tie.Need-hex-digit-requires Inv-loop μ-loop
-hex-digit-requires c κs = omega (arith, c .shared-slice-known2 .given (c .before .before .loop .i))
+shared-slice-read-put-hex : tie.Need-shared-slice-read-put-hex Inv-loop μ-loop
+shared-slice-read-put-hex c = search needs
 
-hex-digit-requires-2 : tie.Need-hex-digit-requires-2 Inv-loop μ-loop
-hex-digit-requires-2 c κs = search needs
+put-hex-requires : tie.Need-put-hex-requires Inv-loop μ-loop
+put-hex-requires c κs = search needs
 
 slice-aggregate-write-all : tie.Need-slice-aggregate-write-all Inv-loop μ-loop
 slice-aggregate-write-all c = search needs
@@ -49,9 +48,9 @@ write-hex-spec =
     Inv-loop
     μ-loop
     loop-holds
-    shared-slice-read-byte
-    hex-digit-requires
-    hex-digit-requires-2
+    slice-aggregate-put-hex
+    shared-slice-read-put-hex
+    put-hex-requires
     slice-aggregate-write-all
     write-all-requires
     add-i

@@ -6,7 +6,7 @@ use native.Mathlib.Omega.{arith}
 use borrow.Author.Needs.{needs}
 use borrow.Author.Tests.{not-true, not-false}
 use lib.ListN.{length, drop, length-map}
-use Rattle.edition.specs.Rows.{formedFrom, told}
+use Rattle.edition.specs.Rows.{formedFrom, formedTold}
 use Rattle.edition.proofs.Rows.{formed-pass, formed-stop, formed-end}
 use Rattle.edition.proofs.Edition.formed.Statement.{statement}
 use Rattle.edition.proofs.Edition.formed.Tie as tie
@@ -37,7 +37,7 @@ returns : tie.Need-returns Inv-loop μ-loop
 returns c =
     let l = seventeen (c .before .before .before .before .before) in
     let h = c .before .before .before .before .loop in
-    ap told (sym (formed-stop _ (h .i) (omega arith) (sym (c .before .row-formed .ensures) ∙ not-true _ (c .if1 .taken))) ∙ h .inv .1)
+    ap formedTold (sym (formed-stop _ (h .i) (omega arith) (sym (c .before .row-formed .ensures) ∙ not-true _ (c .if1 .taken))) ∙ h .inv .1)
 
 add-i : tie.Need-add-i Inv-loop μ-loop
 add-i c = search needs
@@ -55,7 +55,7 @@ returns-2 : tie.Need-returns-2 Inv-loop μ-loop
 returns-2 c =
     let l = seventeen (c .before .before) in
     let h = c .before .loop in
-    ap told (sym (formed-end _ (h .i) (omega arith)) ∙ h .inv .1)
+    ap formedTold (sym (formed-end _ (h .i) (omega arith)) ∙ h .inv .1)
 
 pub formed-spec : {M : Type 1} → statement M
 formed-spec =

@@ -1,4 +1,4 @@
--- `edition::lengths::longest` meets its contract. Assumes nothing.
+-- `edition::lengths::longest` meets its contract: the highest bit of the set, by its leading zeros. Assumes nothing.
 use mathlib.Core.Path.{refl}
 use native.Mathlib.Omega.{arith}
 use Rattle.edition.specs.Sets.{longestOf}

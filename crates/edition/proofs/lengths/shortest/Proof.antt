@@ -1,4 +1,4 @@
--- `edition::lengths::shortest` meets its contract. Assumes nothing.
+-- `edition::lengths::shortest` meets its contract: the lowest bit of the set, by its trailing zeros. Assumes nothing.
 use mathlib.Core.Path.{refl}
 use native.Mathlib.Omega.{arith}
 use lib.Count.{trailing-le}

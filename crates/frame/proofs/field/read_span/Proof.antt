@@ -1,11 +1,11 @@
--- `frame::field::read_span` meets its contract. Assumes nothing.
+-- `frame::field::read_span` meets its contract: the field is read from the two bytes behind the tag, and its form says where the objects begin and end. Assumes nothing.
 use mathlib.Core.Path.{_∙_, sym, ap}
 use native.Mathlib.Omega.{arith}
 use lib.ListN.{drop-of-length-le}
 use Rattle.card.specs.Fields.{lengthAt}
 use Rattle.card.proofs.Forms.{told-apart}
 use Rattle.frame.specs.Checks.{spanOf}
-use Rattle.frame.proofs.Runs.{part-to-end}
+use Rattle.ground.proofs.Runs.{part-to-end}
 use borrow.Author.Needs.{needs}
 use Rattle.frame.proofs.field.read_span.Statement.{statement}
 use Rattle.frame.proofs.field.read_span.Tie as tie

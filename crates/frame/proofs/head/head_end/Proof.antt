@@ -4,10 +4,10 @@ use mathlib.Core.Path.{_≡_, sym, _∙_}
 use mathlib.Core.List.{List, _++_}
 use native.Mathlib.Omega.{arith}
 use lib.ListN.{drop}
-use Rattle.rules.specs.Lists.{agree}
+use Rattle.ground.specs.Lists.{agree}
 use Rattle.card.specs.Layout.{identifier}
 use Rattle.card.specs.Frame.{headEnd}
-use Rattle.frame.proofs.Runs.{part-stops, part-passes}
+use Rattle.ground.proofs.Runs.{part-stops, part-passes}
 use Rattle.frame.proofs.Heads.{chip, application, body, last, behindChip, behindApplication, behindIdentifier, from-chip, over-free, over-last}
 use borrow.Author.Needs.{needs}
 use Rattle.frame.proofs.head.head_end.Statement.{statement}

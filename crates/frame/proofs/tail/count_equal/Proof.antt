@@ -3,8 +3,8 @@ use mathlib.Core.Path.{_≡_, sym, _∙_}
 use Prim.Native.Nat.{_+_, _-_, _≤_}
 use native.Mathlib.Omega.{arith}
 use lib.ListN.{length, drop, replicate}
-use Rattle.rules.specs.Lists.{agree}
-use Rattle.frame.proofs.Runs.{run-pass, run-stop, run-end}
+use Rattle.ground.specs.Lists.{agree}
+use Rattle.ground.proofs.Runs.{run-pass, run-stop, run-end}
 use Rattle.frame.proofs.tail.count_equal.Statement.{statement}
 use Rattle.frame.proofs.tail.count_equal.Tie as tie
 

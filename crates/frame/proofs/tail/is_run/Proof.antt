@@ -3,7 +3,7 @@ use mathlib.Core.Path.{_≡_}
 use Prim.Native.Nat.{_-_, _≤_}
 use native.Mathlib.Omega.{arith}
 use lib.ListN.{length}
-use Rattle.frame.proofs.Runs.{Differs, differs-start, differs-next, differs-end}
+use Rattle.ground.proofs.Runs.{Differs, differs-start, differs-next, differs-end}
 use Rattle.frame.proofs.tail.is_run.Statement.{statement}
 use Rattle.frame.proofs.tail.is_run.Tie as tie
 

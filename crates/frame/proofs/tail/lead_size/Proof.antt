@@ -1,4 +1,4 @@
--- `frame::tail::lead_size` meets its contract. Assumes nothing.
+-- `frame::tail::lead_size` meets its contract: a tag, and one byte of length or two. Assumes nothing.
 use borrow.Author.Tests.{le-leb, lt-leb}
 use Rattle.card.specs.Fields.{lengthField}
 use Rattle.frame.proofs.tail.lead_size.Statement.{statement}

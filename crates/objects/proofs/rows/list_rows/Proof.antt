@@ -10,7 +10,7 @@ use lib.Seq.{drop-drop}
 use denote.Ref.{now}
 use Rattle.edition.specs.Rows.{tags, noRow}
 use Rattle.card.specs.Walk.{look, there}
-use Rattle.objects.specs.Objects.{entryOf}
+use Rattle.objects.specs.Objects.{entryAt}
 use Rattle.objects.proofs.Finds.{part-left, met-absent, met-wrong, Lies, met-there}
 use Rattle.objects.proofs.Steps.{Sofar, sofar-none, next-absent, next-there, table-is, table-wrong}
 use Rattle.objects.proofs.rows.list_rows.Statement.{statement}
@@ -33,11 +33,11 @@ lies : (c : tie.After-known-told Inv-loop μ-loop) →
     let a = h .before .before .args in
     let g = c .before .start .given .0 in
     Lies (drop (h .loop .i) (now (a .template))) (a .from + h .loop .i) (g .0) (g .1 .0)
-    (look (entryOf (h .loop .k) (getD (a .t2) (h .loop .k) noRow)) (drop (suc (h .loop .k)) tags) (a .from + h .loop .i) (drop (h .loop .i) (now (a .template))))
+    (look (entryAt (h .loop .k) (getD (a .t2) (h .loop .k) noRow)) (drop (suc (h .loop .k)) tags) (a .from + h .loop .i) (drop (h .loop .i) (now (a .template))))
 lies c =
     let h = c .before .before .before .before .before .before .before in
     let a = h .before .before .args in
-    let r = entryOf (h .loop .k) (getD (a .t2) (h .loop .k) noRow) in
+    let r = entryAt (h .loop .k) (getD (a .t2) (h .loop .k) noRow) in
     let met = sym (c .before .before .before .meet-row .ensures) ∙ c .before .start .given .1 in
     met-there r (drop (suc (h .loop .k)) tags) (drop (h .loop .i) (now (a .template))) (a .from + h .loop .i) _ _
     (rw (part-left (h .loop .i) (now (a .template))) at met)

@@ -7,7 +7,7 @@ use denote.Ref.{now}
 use Rattle.edition.specs.Rows.{tags}
 use Rattle.card.specs.Walk.{look}
 use Rattle.card.specs.Reading.{restRefusal}
-use Rattle.objects.specs.Objects.{entryOf}
+use Rattle.objects.specs.Objects.{entryAt}
 use Rattle.objects.proofs.Finds.{met-absent, met-wrong, Lies, met-there}
 use Rattle.objects.proofs.Steps.{last-wrong, last-absent, last-there}
 use borrow.Author.Needs.{needs}
@@ -30,10 +30,10 @@ enum-known-start c = search needs
 lies : (c : tie.After-known-told) →
     let a = c .before .before .before .before .before .args in
     let g = c .before .start .given .0 in
-    Lies (now (a .part)) (a .at) (g .0) (g .1 .0) (look (entryOf 16 (a .row)) (drop 17 tags) (a .at) (now (a .part)))
+    Lies (now (a .part)) (a .at) (g .0) (g .1 .0) (look (entryAt 16 (a .row)) (drop 17 tags) (a .at) (now (a .part)))
 lies c =
     let a = c .before .before .before .before .before .args in
-    met-there (entryOf 16 (a .row)) (drop 17 tags) (now (a .part)) (a .at) _ _ (sym (c .before .before .before .meet-row .ensures) ∙ c .before .start .given .1)
+    met-there (entryAt 16 (a .row)) (drop 17 tags) (now (a .part)) (a .at) _ _ (sym (c .before .before .before .meet-row .ensures) ∙ c .before .start .given .1)
 
 add-refuse-rest : tie.Need-add-refuse-rest
 add-refuse-rest c = let t = lies c in omega (arith, t .inside)

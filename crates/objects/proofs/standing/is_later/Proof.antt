@@ -5,7 +5,7 @@ use native.Mathlib.Numerals.{add-one}
 use native.Mathlib.Omega.{arith}
 use borrow.Author.Needs.{needs}
 use lib.ListN.{drop}
-use Rattle.rules.specs.Lists.{among}
+use Rattle.ground.specs.Lists.{among}
 use Rattle.edition.specs.Rows.{tags}
 use Rattle.objects.proofs.Finds.{later-here, later-next, later-end}
 use Rattle.objects.proofs.standing.is_later.Statement.{statement}

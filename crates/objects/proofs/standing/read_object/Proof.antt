@@ -7,9 +7,9 @@ use lib.ListN.{length, getD, take, drop}
 use denote.Ref.{now}
 use Rattle.rules.specs.declared.values.Verdict.{Verdict}
 use Rattle.rules.proofs.Verdicts.{told-apart}
-use Rattle.rules.specs.Values.{Told, told as verdictTold, judged}
+use Rattle.rules.specs.Values.{ToldVerdict, verdictTold, judged}
 use Rattle.card.specs.Walk.{Seen}
-use Rattle.objects.specs.Objects.{told, foundOf, valued}
+use Rattle.objects.specs.Objects.{foundTold, foundOf, valued}
 use Rattle.objects.proofs.Finds.{index-within, found-cut, found-unlisted, found-overlong, found-weighed, weighed-found}
 use borrow.Author.Needs.{needs}
 use Rattle.objects.proofs.standing.read_object.Statement.{statement}
@@ -22,7 +22,7 @@ returns : tie.Need-returns
 unfolding foundOf
 returns c =
     let a = c .before .before .before .args in
-    rw (c .tag-of .ensures) (ap (λ (x : Seen). told (foundOf (a .k) (a .at) x)) (sym (found-cut (a .k) (a .at) (a .row) (now (a .part)) (c .before .if1 .taken))))
+    rw (c .tag-of .ensures) (ap (λ (x : Seen). foundTold (foundOf (a .k) (a .at) x)) (sym (found-cut (a .k) (a .at) (a .row) (now (a .part)) (c .before .if1 .taken))))
 
 shared-slice-read-n : tie.Need-shared-slice-read-n
 shared-slice-read-n c = search needs
@@ -41,7 +41,7 @@ unfolding foundOf
 returns-2 c =
     let a = c .before .before .before .before .before .before .args in
     let out = sym (c .before .before .permits .ensures) ∙ not-true (c .before .before .permits .result) (c .before .if2 .taken) in
-    rw (c .tag-of2 .ensures) (ap (λ (x : Seen). told (foundOf (a .k) (a .at) x)) (sym (found-unlisted (a .k) (a .at) (a .row) (now (a .part)) (omega arith) out)))
+    rw (c .tag-of2 .ensures) (ap (λ (x : Seen). foundTold (foundOf (a .k) (a .at) x)) (sym (found-unlisted (a .k) (a .at) (a .row) (now (a .part)) (omega arith) out)))
 
 cast-stop : tie.Need-cast-stop
 cast-stop c = omega (arith, c .before .before .shared-slice-known2 .given 0)
@@ -58,7 +58,7 @@ returns-3 c =
     let a = c .before .before .before .before .before .before .before .args in
     let listed = sym (c .before .before .before .permits .ensures) ∙ not-false (c .before .before .before .permits .result) (c .before .before .if2 .left) in
     rw (c .tag-of3 .ensures)
-    (ap (λ (x : Seen). told (foundOf (a .k) (a .at) x)) (sym (found-overlong (a .k) (a .at) (a .row) (now (a .part)) (omega arith) listed (omega arith))))
+    (ap (λ (x : Seen). foundTold (foundOf (a .k) (a .at) x)) (sym (found-overlong (a .k) (a .at) (a .row) (now (a .part)) (omega arith) listed (omega arith))))
 
 sub-judge : tie.Need-sub-judge
 sub-judge c = search needs
@@ -84,7 +84,7 @@ weigh-requires c κs =
     let n = getD (now (a .part)) 0 0 in
     let long : length (take (1 + n - 1) (drop 1 (now (a .part)))) ≡ 1 + n - 1 = c .before .judge-arg .given .2 in
     let inside : verdictTold (c .judge .result) .index ≤ 1 + n - 1 =
-    rw (ap (λ (t : Told). t .index) (c .judge .ensures)) (rw long at (index-within (a .row .rule) (take (1 + n - 1) (drop 1 (now (a .part)))))) in
+    rw (ap (λ (t : ToldVerdict). t .index) (c .judge .ensures)) (rw long at (index-within (a .row .rule) (take (1 + n - 1) (drop 1 (now (a .part)))))) in
     omega arith
 
 returns-4 : tie.Need-returns-4
@@ -98,12 +98,12 @@ returns-4 c =
     let long : length (take n (drop 1 l)) ≡ n = rw one at (c .before .before .judge-arg .given .2) in
     let verdict : c .before .judge .result ≡ judged (a .row .rule) (take n (drop 1 l)) =
     told-apart _ (judged (a .row .rule) (take (1 + n - 1) (drop 1 l))) (c .before .judge .ensures) ∙ ap (λ (m : ℕ). judged (a .row .rule) (take m (drop 1 l))) one in
-    let weighed : told (c .weigh .result) ≡ told (valued (a .k) (a .at + 2) n (c .before .judge .result)) = c .weigh .ensures in
+    let weighed : foundTold (c .weigh .result) ≡ foundTold (valued (a .k) (a .at + 2) n (c .before .judge .result)) = c .weigh .ensures in
     weighed
-    ∙ ap (λ (v : Verdict). told (valued (a .k) (a .at + 2) n v)) verdict
-    ∙ ap (λ (m : ℕ). told (valued (a .k) (a .at + 2) m (judged (a .row .rule) (take n (drop 1 l))))) (sym long)
-    ∙ ap told (sym (weighed-found (a .k) (a .at) (a .row) (take n (drop 1 l)) (drop n (drop 1 l)) _))
-    ∙ ap (λ (x : Seen). told (foundOf (a .k) (a .at) x)) (sym (found-weighed (a .k) (a .at) (a .row) l (omega arith) listed (omega arith)))
+    ∙ ap (λ (v : Verdict). foundTold (valued (a .k) (a .at + 2) n v)) verdict
+    ∙ ap (λ (m : ℕ). foundTold (valued (a .k) (a .at + 2) m (judged (a .row .rule) (take n (drop 1 l))))) (sym long)
+    ∙ ap foundTold (sym (weighed-found (a .k) (a .at) (a .row) (take n (drop 1 l)) (drop n (drop 1 l)) _))
+    ∙ ap (λ (x : Seen). foundTold (foundOf (a .k) (a .at) x)) (sym (found-weighed (a .k) (a .at) (a .row) l (omega arith) listed (omega arith)))
 
 pub read-object-spec : {M : Type 1} → statement M
 read-object-spec =

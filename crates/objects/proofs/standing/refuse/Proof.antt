@@ -1,6 +1,6 @@
 -- `objects::standing::refuse` meets its contract: only 7 tells ends. Assumes nothing.
 use borrow.Author.Tests.{ne-eqb}
-use Rattle.objects.specs.Objects.{refusalOf}
+use Rattle.objects.specs.Objects.{withEnds}
 use borrow.Author.Needs.{needs}
 use Rattle.objects.proofs.standing.refuse.Statement.{statement}
 use Rattle.objects.proofs.standing.refuse.Tie as tie
@@ -12,11 +12,11 @@ new-requires : tie.Need-new-requires
 new-requires c κs = search needs
 
 returns : tie.Need-returns
-unfolding refusalOf
+unfolding withEnds
 returns c = rw (c .before .if1 .taken) (c .of-length .ensures)
 
 returns-2 : tie.Need-returns-2
-unfolding refusalOf
+unfolding withEnds
 returns-2 c = rw (ne-eqb _ _ (c .before .if1 .left)) (c .new .ensures)
 
 pub refuse-spec : {M : Type 1} → statement M

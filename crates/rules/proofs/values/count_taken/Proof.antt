@@ -8,9 +8,9 @@ use borrow.Author.Tests.{not-true, not-false}
 use lib.ListN.{length, drop}
 use Rattle.rules.specs.declared.values.Characters.{Characters}
 use Rattle.rules.specs.Characters.{hasByte}
-use Rattle.rules.specs.Lists.{leading}
+use Rattle.ground.specs.Lists.{leading}
 use Rattle.rules.specs.Values.{takes}
-use Rattle.rules.proofs.Lists.{leading-pass, leading-stop, leading-end}
+use Rattle.ground.proofs.Lists.{leading-pass, leading-stop, leading-end}
 use Rattle.rules.proofs.Verdicts.{leading-bits}
 use Rattle.rules.proofs.values.count_taken.Statement.{statement}
 use Rattle.rules.proofs.values.count_taken.Tie as tie

@@ -1,4 +1,4 @@
--- `rules::values::holds_for` meets its contract. Assumes nothing.
+-- `rules::values::holds_for` meets its contract: each rule asks its own test, and the others are true of it. Assumes nothing.
 use Rattle.rules.specs.Values.{holds}
 use borrow.Author.Needs.{needs}
 use Rattle.rules.proofs.values.holds_for.Statement.{statement}

@@ -1,4 +1,4 @@
--- `rules::values::judge` meets its contract. Assumes nothing.
+-- `rules::values::judge` meets its contract: the first byte outside comes before the sense of the value. Assumes nothing.
 use mathlib.Core.Path.{sym, _∙_}
 use borrow.Author.Tests.{lt-ltb, le-ltb}
 use Rattle.rules.specs.Values.{judged}

@@ -1,8 +1,10 @@
--- `writer::filler::write_filler` meets its contract: its runs of stores make the filler. Assumes nothing.
-use mathlib.Core.Path.{_≡_, refl}
-use Prim.Native.Nat.{ℕ, _-_}
+-- `writer::filler::write_filler` meets its contract: its runs of stores make the filler, and end where the part ends. Assumes nothing.
+use mathlib.Core.Path.{_≡_, _∙_}
+use Prim.Native.Nat.{ℕ, _+_, _-_}
 use native.Mathlib.Omega.{arith}
-use lib.ListN.{length, length-set}
+use lib.ListN.{length, length-set, replicate, length-replicate}
+use Rattle.ground.specs.Rooms.{Put}
+use Rattle.ground.proofs.Puts.{put-there, put-stored}
 use Rattle.card.proofs.Room.{room}
 use Rattle.writer.proofs.Fillers.{Placed, placed, filled}
 use borrow.Author.Needs.{needs}
@@ -32,21 +34,31 @@ known c = placed (T c) _ _ (omega arith) (omega arith) (c .before .before .count
 long : (c : tie.After-write-length) → length (c .write-length .last .0) ≡ length (c .before .before .before .before .args .part .now)
 long c = simp length-set at (c .write-length .kept .0)
 
-add-end : tie.Need-add-end
-add-end c = let k = known (c .before .before) in omega arith
-
 fill-requires : tie.Need-fill-requires
-fill-requires c κs =
-    let k = known (c .before .before .before) in
-    let l = long (c .before .before .before) in
-    (omega arith, omega arith)
+fill-requires c κs = search needs
 
-fill-requires-2 : tie.Need-fill-requires-2
-fill-requires-2 c κs =
-    let p = c .before .before .before .before .before .before .before in
+abbrev first-write : tie.After-slice-known3 → tie.After-write-length
+first-write c = c .before .before .before .before .before .before
+
+-- the spaces fit
+spaced : (c : tie.After-slice-known3) → Put (first-write c .write-length .last .0) (first-write c .write-length .result) (replicate (first-write c .before .before .count-spaces .result) 0x20) (c .before .before .fill .last .0) (c .before .before .fill .result)
+spaced c =
+    let p = first-write c in
     let k = known p in
     let l = long p in
-    (omega arith, omega arith)
+    let n = length-replicate {A = ℕ} (p .before .before .count-spaces .result) 0x20 in
+    put-there (c .before .before .fill .ensures .0) (c .before .before .fill .ensures .1) (omega (arith, k .ends, n, l, p .before .before .before .before))
+
+sub-fill : tie.Need-sub-fill
+sub-fill c =
+    let m = c .before in
+    let p = first-write m in
+    let k = known p in
+    let n = length-replicate {A = ℕ} (p .before .before .count-spaces .result) 0x20 in
+    omega (arith, spaced m .place, k .ends, n, p .before .before .before .before)
+
+fill-requires-2 : tie.Need-fill-requires-2
+fill-requires-2 c κs = search needs
 
 same-length : tie.Need-same-length
 same-length c = let l = long (c .before .before .before .before .before .before .before .before .before .before) in omega arith
@@ -54,8 +66,17 @@ same-length c = let l = long (c .before .before .before .before .before .before 
 returns : tie.Need-returns
 returns c =
     let p = c .before .before .before .before .before .before .before .before .before .before in
+    let m = c .before .before .before .before in
     let a = p .before .before .before .before .args in
-    filled (a .part .now) (T p) _ _ _ (a .last) (known p) (omega arith) refl (p .write-length .ensures .1) (c .before .before .before .before .before .before .fill .ensures) (c .before .before .fill2 .ensures)
+    let k = known p in
+    let l = long p in
+    let s = spaced m in
+    let n = length-replicate {A = ℕ} (p .before .before .count-spaces .result) 0x20 in
+    let e : m .before .before .fill .result ≡ p .write-length .result + p .before .before .count-spaces .result = s .place ∙ omega arith in
+    let d = m .before .before .fill .kept .0 ∙ l in
+    let rest = length-replicate {A = ℕ} (length (a .part .now) - m .before .before .fill .result) (a .last) in
+    filled (a .part .now) (T p) _ _ _ (a .last) k (omega arith) e (p .write-length .ensures .1) (s .stored)
+    (put-stored _ _ _ (omega (arith, rest, d, e, k .ends)) (c .before .before .fill2 .ensures .1))
 
 pub write-filler-spec : {M : Type 1} → statement M
 write-filler-spec =
@@ -65,8 +86,8 @@ write-filler-spec =
     count-spaces-requires
     slice-write-part
     write-length-requires
-    add-end
     fill-requires
+    sub-fill
     fill-requires-2
     same-length
     returns)

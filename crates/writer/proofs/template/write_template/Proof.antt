@@ -84,10 +84,10 @@ returns c =
     let p = w .before .before .before .before in
     let s = p .before .before .before .before in
     let k = known p in
-    let e = w .write-objects .ensures .0 in
+    let e = w .write-objects .ensures .place in
     let m = behind w in (
       template-ends (objectsOf (contentOf (s .args .content))) k e,
-      templated (objectsOf (contentOf (s .args .content))) k e (s .args .buffer .now) (c .checksum .result) (p .write-length .ensures .1) (w .write-objects .ensures .1)
+      templated (objectsOf (contentOf (s .args .content))) k e (s .args .buffer .now) (c .checksum .result) (p .write-length .ensures .1) (w .write-objects .ensures .stored)
           (omega (arith, s .pre .1)) (c .checksum .ensures),
     )
 

@@ -1,2 +1,0 @@
--- What a record is refused with.
-pub mod Checking

@@ -1,0 +1,42 @@
+-- `files::words::edition_named` meets its contract: its tests are those of the definition. Assumes nothing.
+use mathlib.Core.Path.{_≡_, sym, _∙_}
+use Rattle.files.specs.Words.{editionNamed}
+use borrow.Author.Needs.{needs}
+use Rattle.files.proofs.words.edition_named.Statement.{statement}
+use Rattle.files.proofs.words.edition_named.Tie as tie
+
+slice-aggregate-is-same : tie.Need-slice-aggregate-is-same
+slice-aggregate-is-same c = search needs
+
+is-same-requires : tie.Need-is-same-requires
+is-same-requires c κs = search needs
+
+returns : tie.Need-returns
+unfolding editionNamed
+returns c = rw (← c .before .is-same .ensures, c .if1 .taken)
+
+slice-aggregate-is-same-2 : tie.Need-slice-aggregate-is-same-2
+slice-aggregate-is-same-2 c = search needs
+
+is-same-requires-2 : tie.Need-is-same-requires-2
+is-same-requires-2 c κs = search needs
+
+returns-2 : tie.Need-returns-2
+unfolding editionNamed
+returns-2 c = rw (← c .before .before .before .before .is-same .ensures, c .before .before .before .if1 .left, ← c .before .is-same2 .ensures, c .if2 .taken)
+
+returns-3 : tie.Need-returns-3
+unfolding editionNamed
+returns-3 c = rw (← c .before .before .before .before .is-same .ensures, c .before .before .before .if1 .left, ← c .before .is-same2 .ensures, c .if2 .left)
+
+pub edition-named-spec : {M : Type 1} → statement M
+edition-named-spec =
+    tie.close
+    (tie.spec
+    slice-aggregate-is-same
+    is-same-requires
+    returns
+    slice-aggregate-is-same-2
+    is-same-requires-2
+    returns-2
+    returns-3)

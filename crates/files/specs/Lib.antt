@@ -1,0 +1,2 @@
+-- The words that programs take.
+pub mod Words

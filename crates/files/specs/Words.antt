@@ -1,0 +1,14 @@
+-- An edition by its name: 1 `terminal`, 2 `issue`, as the C interface numbers them; 0 for another word.
+use Prim.Native.Nat.{ℕ}
+use mathlib.Core.Bool.{cond}
+use mathlib.Core.List.{List, [], _∷_}
+use Rattle.ground.specs.Lists.{sameList}
+
+abbrev pub terminalWord : List ℕ
+terminalWord = 0x74 ∷ 0x65 ∷ 0x72 ∷ 0x6D ∷ 0x69 ∷ 0x6E ∷ 0x61 ∷ 0x6C ∷ []
+
+abbrev pub issueWord : List ℕ
+issueWord = 0x69 ∷ 0x73 ∷ 0x73 ∷ 0x75 ∷ 0x65 ∷ []
+
+unfoldable pub editionNamed : List ℕ → ℕ
+editionNamed word = cond (sameList word terminalWord) 1 (cond (sameList word issueWord) 2 0)

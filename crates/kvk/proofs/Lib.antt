@@ -1,3 +1,0 @@
--- Laws that the proofs of `kvk` share.
-pub mod Fronts
-pub mod RoundTrips

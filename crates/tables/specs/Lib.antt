@@ -1,3 +1,0 @@
--- Editions as lent bytes.
-pub mod Bytes
-pub mod Tables

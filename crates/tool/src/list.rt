@@ -1,0 +1,51 @@
+// list [EDITION] FILE: lists one card.
+use crate::words;
+use edition::Edition;
+use libc::STDOUT_FILENO;
+ghost use Prim.Native.Nat.{_<_};
+
+// Lists the card in an open file.
+fn list_card(edition: Edition, file: i32) -> u8
+    ensures { λ r. ⌜ r < 4 ⌝ }
+{
+    // One byte more than a card has: a card with something behind it is none.
+    let mut image = [0u8; 257];
+    let length = io::read_full(file, &mut image);
+    if length != 256 {
+        words::say(b"this is not the 256 bytes of a card");
+    }
+    let mut room = [0u8; 521];
+    let size = listing::list(edition, &image[..length], &mut room);
+    let is_written = io::write_all(STDOUT_FILENO, &room[..size]);
+    if is_written & (room[0] == b'R') {
+        return words::REFUSED;
+    }
+    words::written(is_written)
+}
+
+// Lists the card in the file that word i names.
+fn list_file(edition: Edition, i: usize) -> u8
+    ensures { λ r. ⌜ r < 4 ⌝ }
+{
+    let mut path = io::buffer();
+    let length = os::arg(i, &mut path);
+    let file = files::open(&path[..length]);
+    if file < 0 {
+        return words::FAILED;
+    }
+    list_card(edition, file)
+}
+
+pub(crate) fn run() -> u8
+    ensures { λ r. ⌜ r < 4 ⌝ }
+{
+    let words = os::arg_count();
+    if words == 3 {
+        return list_file(Edition::TERMINAL, 2);
+    }
+    let edition = words::edition_at(2);
+    if (words != 4) | (edition == 0) {
+        return words::misused(b"list takes one file, and before it terminal or issue");
+    }
+    list_file(words::edition_by(edition), 3)
+}

@@ -1,0 +1,28 @@
+// The program behind ./kvk: the first word names the command, the others are its own.
+// What a command writes goes to standard output, what it has to say to standard error.
+// A program has no exit status, so the last byte of each run, on descriptor 3, is its status as a digit.
+mod batch;
+mod list;
+mod words;
+
+ghost use Prim.Native.Nat.{_<_};
+
+// The commands.
+fn run(name: &[u8]) -> u8
+    ensures { λ r. ⌜ r < 4 ⌝ }
+{
+    if ground::is_same(name, b"list") {
+        return list::run();
+    }
+    if ground::is_same(name, b"batch") {
+        return batch::run();
+    }
+    words::misused(b"there is no such command")
+}
+
+fn main() {
+    let mut name = [0u8; 16];
+    let length = os::arg(1, &mut name);
+    let status = run(&name[..length]);
+    io::write_all(3, &[b'0' + status]);
+}

@@ -1,0 +1,5 @@
+-- Laws that the proofs of `wire` share, and that what is written comes back.
+pub mod Sizes
+pub mod RowsAt
+pub mod EditionsBack
+pub mod RecordsBack

@@ -1,0 +1,12 @@
+// Editions, records and refusals as bytes: a table of 102, a record of 478, an answer of one number.
+// What a table or a record says is taken as it stands: whether an edition is well formed, whether a record may be written, others ask.
+// Of bytes of another size comes an edition that no image passes, or the empty record; a room of another size is left as it is.
+mod answers;
+mod records;
+mod rows;
+
+pub use answers::pack;
+pub use records::record_of;
+pub use records::write_record;
+pub use rows::edition_of;
+pub use rows::write_table;
