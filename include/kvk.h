@@ -56,6 +56,11 @@ uint64_t kvk_write(const uint8_t *edition, size_t edition_len,
    answers 20 (the room is not 102 bytes) or 2 (no such edition). */
 uint64_t kvk_edition(uint64_t which, uint8_t *room, size_t room_len);
 
+/* Reads a length field: one byte up to 127, '81' and one byte from 128, '82' and two bytes from 256 on; what lies
+   behind it does not matter. Answers the length and the bytes used, see kvk_length_value and kvk_length_used, or
+   refuses: 70, then 71, then 72; length and bytes used are then 0. */
+uint64_t kvk_length(const uint8_t *bytes, size_t bytes_len);
+
 /* The parts of an answer. Shortest and longest are 0 unless the number is 7.
 
    No.  What is refused                                     Place when reading            Tag
@@ -76,6 +81,9 @@ uint64_t kvk_edition(uint64_t which, uint8_t *room, size_t room_len);
    13   the checksum                                        its value byte                0
    14   the filler or the last bytes                        first wrong address           0
    20   a record, or a room to be filled, has not its size  0                             0
+   70   a length field has another first byte               0                             0
+   71   a length field is cut short, or not there           0                             0
+   72   a length field is longer than needed                0                             0
 
    When writing the place is 0, but with 9 the index within the value. 15 to 19 are not in use.
 
@@ -88,6 +96,13 @@ static inline unsigned kvk_place(uint64_t answer) { return (unsigned)(answer >> 
 static inline unsigned kvk_tag(uint64_t answer) { return (unsigned)(answer >> 16 & 0xFF); }
 static inline unsigned kvk_shortest(uint64_t answer) { return (unsigned)(answer >> 24 & 0xFF); }
 static inline unsigned kvk_longest(uint64_t answer) { return (unsigned)(answer >> 32 & 0xFF); }
+
+/* The value of a call that has one; 0 with a refusal. */
+static inline unsigned kvk_value(uint64_t answer) { return (unsigned)(answer >> 40); }
+
+/* The two parts of the value of kvk_length. */
+static inline unsigned kvk_length_value(uint64_t answer) { return (unsigned)(answer >> 40 & 0xFFFF); }
+static inline unsigned kvk_length_used(uint64_t answer) { return (unsigned)(answer >> 56); }
 
 #ifdef __cplusplus
 }

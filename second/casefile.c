@@ -3,7 +3,23 @@
 
 #include <string.h>
 
-#include "list.h"
+/* Where the next field of each sort goes, or comes from. */
+struct cursor {
+    size_t edition;
+    size_t span;
+    size_t number;
+};
+
+static const struct kind *kind_of(uint8_t letter)
+{
+    const struct kind *kind = kinds;
+
+    while (kind->letter != 0 && kind->letter != letter)
+        kind++;
+    return kind;
+}
+
+/* Getting */
 
 static int get_bytes(FILE *in, uint8_t *bytes, size_t count)
 {
@@ -18,6 +34,11 @@ static int get_length(FILE *in, size_t *length)
         return 0;
     *length = (size_t)bytes[0] << 8 | bytes[1];
     return *length <= LENT_MAX;
+}
+
+static int get_span(FILE *in, struct span *span)
+{
+    return get_length(in, &span->length) && get_bytes(in, span->bytes, span->length);
 }
 
 static int get_slot(FILE *in, uint8_t *slot)
@@ -51,40 +72,64 @@ static int get_record(FILE *in, uint8_t *record)
     return 1;
 }
 
-static int get_edition(FILE *in, struct test_case *test_case)
+static int get_edition(FILE *in, struct edition *edition)
 {
-    if (!get_bytes(in, &test_case->selector, 1) || test_case->selector > 2)
+    if (!get_bytes(in, &edition->selector, 1) || edition->selector > 2)
         return 0;
-    if (test_case->selector == 0)
-        return get_bytes(in, test_case->table, TABLE_SIZE);
-    second_edition(test_case->selector, test_case->table, TABLE_SIZE);
+    if (edition->selector == 0)
+        return get_bytes(in, edition->table, TABLE_SIZE);
+    second_edition(edition->selector, edition->table, TABLE_SIZE);
     return 1;
+}
+
+static int get_field(FILE *in, struct test_case *test_case, char field, struct cursor *next)
+{
+    switch (field) {
+    case 'e':
+        return get_edition(in, &test_case->editions[next->edition++]);
+    case 's':
+        return get_span(in, &test_case->spans[next->span++]);
+    case 'n':
+        return get_length(in, &test_case->numbers[next->number++]);
+    case 'r':
+        return get_record(in, test_case->record);
+    default:
+        return get_bytes(in, &test_case->fill, 1);
+    }
 }
 
 int get_case(FILE *in, struct test_case *test_case)
 {
+    struct cursor next = {0, 0, 0};
     int first = getc(in);
-    int whole;
+    const struct kind *kind;
+    const char *field;
 
     if (first == EOF)
         return 0;
     test_case->kind = (uint8_t)first;
-    if ((first != 'R' && first != 'W') || !get_edition(in, test_case))
+    kind = kind_of(test_case->kind);
+    if (kind->letter == 0)
         return -1;
-    if (first == 'R')
-        whole = get_length(in, &test_case->length)
-             && get_bytes(in, test_case->image, test_case->length);
-    else
-        whole = get_record(in, test_case->record)
-             && get_length(in, &test_case->length)
-             && get_bytes(in, &test_case->fill, 1);
-    return whole ? 1 : -1;
+    for (field = kind->fields; *field != '\0'; field++) {
+        if (!get_field(in, test_case, *field, &next))
+            return -1;
+    }
+    return 1;
 }
+
+/* Putting */
 
 static void put_length(FILE *out, size_t length)
 {
     putc((int)(length >> 8), out);
     putc((int)(length & 0xFF), out);
+}
+
+static void put_span(FILE *out, const struct span *span)
+{
+    put_length(out, span->length);
+    fwrite(span->bytes, 1, span->length, out);
 }
 
 /* Behind the value all bytes are taken to be as the last one. */
@@ -102,37 +147,46 @@ static void put_record(FILE *out, const uint8_t *record)
     }
 }
 
-void put_case(FILE *out, const struct test_case *test_case)
+static void put_edition(FILE *out, const struct edition *edition)
 {
-    putc(test_case->kind, out);
-    putc(test_case->selector, out);
-    if (test_case->selector == 0)
-        fwrite(test_case->table, 1, TABLE_SIZE, out);
-    if (test_case->kind == 'R') {
-        put_length(out, test_case->length);
-        fwrite(test_case->image, 1, test_case->length, out);
-    } else {
+    putc(edition->selector, out);
+    if (edition->selector == 0)
+        fwrite(edition->table, 1, TABLE_SIZE, out);
+}
+
+static void put_field(FILE *out, const struct test_case *test_case, char field, struct cursor *next)
+{
+    switch (field) {
+    case 'e':
+        put_edition(out, &test_case->editions[next->edition++]);
+        break;
+    case 's':
+        put_span(out, &test_case->spans[next->span++]);
+        break;
+    case 'n':
+        put_length(out, test_case->numbers[next->number++]);
+        break;
+    case 'r':
         put_record(out, test_case->record);
-        put_length(out, test_case->length);
+        break;
+    default:
         putc(test_case->fill, out);
     }
 }
 
-static uint64_t run_read(const struct test_case *test_case, uint8_t *record)
+void put_case(FILE *out, const struct test_case *test_case)
 {
-    memset(record, 0xA5, RECORD_SIZE);
-    return second_read(test_case->table, TABLE_SIZE, test_case->image, test_case->length,
-                       record, RECORD_SIZE);
+    struct cursor next = {0, 0, 0};
+    const char *field;
+
+    putc(test_case->kind, out);
+    for (field = kind_of(test_case->kind)->fields; *field != '\0'; field++)
+        put_field(out, test_case, *field, &next);
 }
 
-static uint64_t run_write(const struct test_case *test_case, uint8_t *buffer)
-{
-    memset(buffer, test_case->fill, LENT_MAX);
-    return second_write(test_case->table, TABLE_SIZE, test_case->record, RECORD_SIZE,
-                        buffer, test_case->length);
-}
+/* Answering */
 
-static void print_hex(FILE *out, const uint8_t *bytes, size_t count)
+void print_hex(FILE *out, const uint8_t *bytes, size_t count)
 {
     size_t i;
 
@@ -140,53 +194,26 @@ static void print_hex(FILE *out, const uint8_t *bytes, size_t count)
         fprintf(out, "%02X", (unsigned)bytes[i]);
 }
 
-static void print_record(FILE *out, const uint8_t *record)
+void print_room(FILE *out, const uint8_t *room, size_t length, uint8_t fill)
 {
-    unsigned behind = 0;
-    size_t i, k;
-
-    print_hex(out, record, RECORD_SLOTS);
-    for (i = 0; i < OBJECT_COUNT; i++) {
-        const uint8_t *slot = record + RECORD_SLOTS + i * SLOT_SIZE;
-        size_t count = slot[0] < VALUE_MAX ? slot[0] : VALUE_MAX;
-        putc('.', out);
-        print_hex(out, slot, 1 + count);
-        for (k = 1 + count; k < SLOT_SIZE; k++)
-            behind += slot[k] != 0;
-    }
-    fprintf(out, " %u", behind);
-}
-
-static void answer_read(const struct test_case *test_case, FILE *out)
-{
-    uint8_t record[RECORD_SIZE];
-    uint64_t answer = run_read(test_case, record);
-
-    fputs("R ", out);
-    print_answer(out, answer);
-    if (answer == 0) {
-        putc(' ', out);
-        print_record(out, record);
-    }
-    putc('\n', out);
-}
-
-static void answer_write(const struct test_case *test_case, FILE *out)
-{
-    uint8_t buffer[LENT_MAX];
-    uint64_t answer = run_write(test_case, buffer);
     size_t same = 0;
 
-    while (same < test_case->length && buffer[same] == test_case->fill)
+    while (same < length && room[same] == fill)
         same++;
-    fputs("W ", out);
-    print_answer(out, answer);
-    putc(' ', out);
-    if (same == test_case->length)
+    if (same == length)
         putc('=', out);
     else
-        print_hex(out, buffer, test_case->length);
+        print_hex(out, room, length);
+}
+
+uint64_t answer_case(const struct test_case *test_case, FILE *out)
+{
+    uint64_t answer;
+
+    fprintf(out, "%c ", test_case->kind);
+    answer = kind_of(test_case->kind)->answer(test_case, out);
     putc('\n', out);
+    return answer;
 }
 
 void answer_cases(FILE *in, FILE *out)
@@ -194,12 +221,8 @@ void answer_cases(FILE *in, FILE *out)
     static struct test_case test_case;
     int got;
 
-    while ((got = get_case(in, &test_case)) == 1) {
-        if (test_case.kind == 'R')
-            answer_read(&test_case, out);
-        else
-            answer_write(&test_case, out);
-    }
+    while ((got = get_case(in, &test_case)) == 1)
+        answer_case(&test_case, out);
     if (got < 0)
         fputs("END\n", out);
 }
@@ -207,21 +230,35 @@ void answer_cases(FILE *in, FILE *out)
 void tally_cases(FILE *in, FILE *out)
 {
     static struct test_case test_case;
-    static unsigned long counts[2][256];
-    uint8_t room[LENT_MAX];
+    static unsigned long counts[256][256];
+    FILE *nowhere = fopen("/dev/null", "w");
+    const struct kind *kind;
     unsigned number;
     int got;
 
-    while ((got = get_case(in, &test_case)) == 1) {
-        int write = test_case.kind == 'W';
-        uint64_t answer = write ? run_write(&test_case, room) : run_read(&test_case, room);
-        counts[write][answer & 0xFF]++;
-    }
-    fputs("number      R      W\n", out);
-    for (number = 0; number < 256; number++) {
-        if (counts[0][number] != 0 || counts[1][number] != 0)
-            fprintf(out, "%6u %6lu %6lu\n", number, counts[0][number], counts[1][number]);
+    if (nowhere == NULL)
+        return;
+    while ((got = get_case(in, &test_case)) == 1)
+        counts[test_case.kind][answer_case(&test_case, nowhere) & 0xFF]++;
+    fclose(nowhere);
+    for (kind = kinds; kind->letter != 0; kind++) {
+        for (number = 0; number < 256; number++) {
+            if (counts[kind->letter][number] != 0)
+                fprintf(out, "%c %3u %6lu\n", kind->letter, number, counts[kind->letter][number]);
+        }
     }
     if (got < 0)
         fputs("END\n", out);
+}
+
+void pick_images(FILE *in, FILE *out, unsigned long every)
+{
+    static struct test_case test_case;
+    unsigned long seen = 0;
+
+    while (get_case(in, &test_case) == 1) {
+        const struct span *image = &test_case.spans[0];
+        if (test_case.kind == 'R' && image->length == IMAGE_SIZE && seen++ % every == 0)
+            fwrite(image->bytes, 1, IMAGE_SIZE, out);
+    }
 }

@@ -3,7 +3,6 @@
 
 #include <string.h>
 
-#include "casefile.h"
 #include "chance.h"
 
 struct edition terminal, issue, wide;
@@ -13,21 +12,35 @@ const struct edition *turn(size_t count)
     return count % 2 == 0 ? &terminal : &issue;
 }
 
-static void start_case(struct test_case *test_case, uint8_t kind, const struct edition *edition)
+struct test_case *new_case(uint8_t kind)
 {
-    test_case->kind = kind;
-    test_case->selector = edition->selector;
-    memcpy(test_case->table, edition->table, TABLE_SIZE);
+    static struct test_case test_case;
+
+    memset(&test_case, 0, sizeof test_case);
+    test_case.kind = kind;
+    return &test_case;
+}
+
+void set_span(struct span *span, const uint8_t *bytes, size_t length)
+{
+    span->length = length;
+    memcpy(span->bytes, bytes, length);
+}
+
+uint8_t chance_room_byte(void)
+{
+    static const uint8_t fills[4] = {0x00, 0xA5, 0xFF, 0x20};
+
+    return fills[chance(4)];
 }
 
 void emit_image(const struct edition *edition, const uint8_t *image, size_t length)
 {
-    static struct test_case test_case;
+    struct test_case *test_case = new_case('R');
 
-    start_case(&test_case, 'R', edition);
-    test_case.length = length;
-    memcpy(test_case.image, image, length);
-    put_case(stdout, &test_case);
+    test_case->editions[0] = *edition;
+    set_span(&test_case->spans[0], image, length);
+    put_case(stdout, test_case);
 }
 
 void emit_draft(const struct edition *edition, const struct draft *draft)
@@ -37,14 +50,13 @@ void emit_draft(const struct edition *edition, const struct draft *draft)
 
 void emit_write(const struct edition *edition, const uint8_t *record, size_t buffer_length)
 {
-    static const uint8_t fills[4] = {0x00, 0xA5, 0xFF, 0x20};
-    static struct test_case test_case;
+    struct test_case *test_case = new_case('W');
 
-    start_case(&test_case, 'W', edition);
-    test_case.length = buffer_length;
-    test_case.fill = fills[chance(4)];
-    memcpy(test_case.record, record, RECORD_SIZE);
-    put_case(stdout, &test_case);
+    test_case->editions[0] = *edition;
+    memcpy(test_case->record, record, RECORD_SIZE);
+    test_case->numbers[0] = buffer_length;
+    test_case->fill = chance_room_byte();
+    put_case(stdout, test_case);
 }
 
 void emit_record(const struct edition *edition, const uint8_t *record)
@@ -113,4 +125,5 @@ void write_corpus(uint64_t seed)
     writing_cases();
     shared_cases();
     edition_cases();
+    length_cases();
 }

@@ -2,18 +2,20 @@
 #ifndef SECOND_CASES_H
 #define SECOND_CASES_H
 
+#include "casefile.h"
 #include "draft.h"
-
-struct edition {
-    uint8_t selector;
-    uint8_t table[TABLE_SIZE];
-};
 
 /* Wide: each row but 8E optional, text, 1 to 28. */
 extern struct edition terminal, issue, wide;
 
 /* Terminal or issue in turn. */
 const struct edition *turn(size_t count);
+
+/* A case of this kind with nothing in it, to be filled and put; the next call takes its place. */
+struct test_case *new_case(uint8_t kind);
+void set_span(struct span *span, const uint8_t *bytes, size_t length);
+/* What fills a room at first. */
+uint8_t chance_room_byte(void);
 
 void emit_image(const struct edition *edition, const uint8_t *image, size_t length);
 void emit_draft(const struct edition *edition, const struct draft *draft);
@@ -33,6 +35,7 @@ void reading_cases(void);
 void writing_cases(void);
 void shared_cases(void);
 void edition_cases(void);
+void length_cases(void);
 
 void write_corpus(uint64_t seed);
 

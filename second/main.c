@@ -4,7 +4,6 @@
 #include <string.h>
 
 #include "card.h"
-#include "casefile.h"
 #include "cases.h"
 #include "list.h"
 #include "samples.h"
@@ -38,17 +37,9 @@ static int batch(const char *name)
     return 0;
 }
 
-static int cases(const char *seed_text)
+static int is_number(const char *word)
 {
-    char *end;
-    unsigned long long seed = strtoull(seed_text, &end, 10);
-
-    if (*seed_text == '\0' || *end != '\0') {
-        fputs("second: the seed is a number\n", stderr);
-        return 2;
-    }
-    write_corpus(seed);
-    return 0;
+    return *word != '\0' && strspn(word, "0123456789") == strlen(word);
 }
 
 static int samples(const char *folder)
@@ -61,31 +52,38 @@ static int samples(const char *folder)
 
 static int usage(void)
 {
-    fputs("second list | batch [terminal|issue] | answer | cases SEED | tally | samples DIR\n", stderr);
+    fputs("second list | batch [terminal|issue] | answer | cases SEED | tally | pick NUMBER | samples DIR\n", stderr);
     return 2;
+}
+
+static int run_on_cases(int count, char **words)
+{
+    int has_number = count == 3 && is_number(words[2]);
+
+    if (strcmp(words[1], "cases") == 0 && has_number)
+        write_corpus(strtoull(words[2], NULL, 10));
+    else if (strcmp(words[1], "answer") == 0)
+        answer_cases(stdin, stdout);
+    else if (strcmp(words[1], "tally") == 0)
+        tally_cases(stdin, stdout);
+    else if (strcmp(words[1], "pick") == 0 && has_number && strtoul(words[2], NULL, 10) > 0)
+        pick_images(stdin, stdout, strtoul(words[2], NULL, 10));
+    else
+        return usage();
+    return 0;
 }
 
 static int run(int count, char **words)
 {
-    const char *command = count > 1 ? words[1] : "";
-
-    if (strcmp(command, "list") == 0)
+    if (count < 2)
+        return usage();
+    if (strcmp(words[1], "list") == 0)
         return list();
-    if (strcmp(command, "batch") == 0)
+    if (strcmp(words[1], "batch") == 0)
         return batch(count > 2 ? words[2] : "terminal");
-    if (strcmp(command, "cases") == 0 && count == 3)
-        return cases(words[2]);
-    if (strcmp(command, "samples") == 0 && count == 3)
+    if (strcmp(words[1], "samples") == 0 && count == 3)
         return samples(words[2]);
-    if (strcmp(command, "answer") == 0) {
-        answer_cases(stdin, stdout);
-        return 0;
-    }
-    if (strcmp(command, "tally") == 0) {
-        tally_cases(stdin, stdout);
-        return 0;
-    }
-    return usage();
+    return run_on_cases(count, words);
 }
 
 int main(int count, char **words)

@@ -7,23 +7,21 @@
 #include "casefile.h"
 #include "chance.h"
 #include "draft.h"
-
-#define COUNT(list) (sizeof(list) / sizeof((list)[0]))
-#define CHECK(condition) check((condition), #condition, __LINE__)
+#include "selftest.h"
 
 static unsigned long checks, failures;
 static uint8_t terminal[TABLE_SIZE], issue[TABLE_SIZE];
 
-static void check(int holds, const char *what, int line)
+void check(int holds, const char *what, const char *file, int line)
 {
     checks++;
     if (!holds) {
         failures++;
-        printf("selftest.c:%d: does not hold: %s\n", line, what);
+        printf("%s:%d: does not hold: %s\n", file, line, what);
     }
 }
 
-static uint64_t told(unsigned number, unsigned place, unsigned tag)
+uint64_t told(unsigned number, unsigned place, unsigned tag)
 {
     return number | (uint64_t)place << 8 | (uint64_t)tag << 16;
 }
@@ -33,8 +31,7 @@ static uint64_t told_7(unsigned place, unsigned tag, unsigned shortest, unsigned
     return told(7, place, tag) | (uint64_t)shortest << 24 | (uint64_t)longest << 32;
 }
 
-/* A copy of exactly this size, so that a look past its end is found. */
-static uint8_t *exact_copy(const uint8_t *bytes, size_t length)
+uint8_t *exact_copy(const uint8_t *bytes, size_t length)
 {
     uint8_t *copy = malloc(length > 0 ? length : 1);
 
@@ -321,29 +318,33 @@ static void test_bad_rows(void)
 /* An accepted image is the layout of its record, and a written one is accepted with its record. */
 static void test_read_case(const struct test_case *test_case)
 {
+    const uint8_t *table = test_case->editions[0].table;
+    const struct span *lent = &test_case->spans[0];
     uint8_t record[RECORD_SIZE] = {0}, image[IMAGE_SIZE] = {0};
     struct draft draft;
 
-    if (read_under(test_case->table, test_case->image, test_case->length, record) != 0)
+    if (read_under(table, lent->bytes, lent->length, record) != 0)
         return;
     draft_card(&draft, record);
-    CHECK(memcmp(draft.image, test_case->image, IMAGE_SIZE) == 0);
-    CHECK(write_under(test_case->table, record, image, IMAGE_SIZE) == 0);
-    CHECK(memcmp(image, test_case->image, IMAGE_SIZE) == 0);
+    CHECK(memcmp(draft.image, lent->bytes, IMAGE_SIZE) == 0);
+    CHECK(write_under(table, record, image, IMAGE_SIZE) == 0);
+    CHECK(memcmp(image, lent->bytes, IMAGE_SIZE) == 0);
 }
 
 static void test_write_case(const struct test_case *test_case)
 {
+    const uint8_t *table = test_case->editions[0].table;
+    size_t length = test_case->numbers[0];
     uint8_t record[RECORD_SIZE] = {0}, wiped[RECORD_SIZE], image[LENT_MAX];
     uint64_t answer;
     struct draft draft;
     size_t row;
 
     memset(image, test_case->fill, LENT_MAX);
-    answer = write_under(test_case->table, test_case->record, image, test_case->length);
+    answer = write_under(table, test_case->record, image, length);
     draft_card(&draft, test_case->record);
     if (answer != 0) {
-        CHECK(test_case->length != IMAGE_SIZE || read_draft(test_case->table, &draft) != 0);
+        CHECK(length != IMAGE_SIZE || read_draft(table, &draft) != 0);
         return;
     }
     memcpy(wiped, test_case->record, RECORD_SIZE);
@@ -352,7 +353,7 @@ static void test_write_case(const struct test_case *test_case)
         memset(slot + 1 + slot[0], 0, (size_t)VALUE_MAX - slot[0]);
     }
     CHECK(memcmp(draft.image, image, IMAGE_SIZE) == 0);
-    CHECK(read_under(test_case->table, image, IMAGE_SIZE, record) == 0);
+    CHECK(read_under(table, image, IMAGE_SIZE, record) == 0);
     CHECK(memcmp(record, wiped, RECORD_SIZE) == 0);
 }
 
@@ -370,7 +371,7 @@ static void test_file(const char *path)
         count++;
         if (test_case.kind == 'R')
             test_read_case(&test_case);
-        else
+        if (test_case.kind == 'W')
             test_write_case(&test_case);
     }
     fclose(in);
@@ -381,26 +382,28 @@ static void test_file(const char *path)
 static void test_random_damage(void)
 {
     static struct test_case test_case;
+    uint8_t *table = test_case.editions[0].table;
+    struct span *lent = &test_case.spans[0];
     uint8_t record[RECORD_SIZE];
     struct draft draft;
     unsigned round;
     uint8_t byte;
 
-    test_case.length = IMAGE_SIZE;
+    lent->length = IMAGE_SIZE;
     for (round = 0; round < 20000; round++) {
         if (round % 10 == 0)
-            chance_table(test_case.table);
+            chance_table(table);
         if (round % 2 == 0)
-            memcpy(test_case.table, round % 4 == 0 ? terminal : issue, TABLE_SIZE);
-        if (!chance_record_of(record, test_case.table, 70 + chance(143)))
+            memcpy(table, round % 4 == 0 ? terminal : issue, TABLE_SIZE);
+        if (!chance_record_of(record, table, 70 + chance(143)))
             continue;
         draft_card(&draft, record);
-        CHECK(read_draft(test_case.table, &draft) == 0);
+        CHECK(read_draft(table, &draft) == 0);
         byte = (uint8_t)chance(256);
         draft.image[chance(IMAGE_SIZE)] = byte;
         if (chance(2))
             draft_mend(&draft);
-        memcpy(test_case.image, draft.image, IMAGE_SIZE);
+        memcpy(lent->bytes, draft.image, IMAGE_SIZE);
         test_read_case(&test_case);
     }
 }
@@ -420,6 +423,7 @@ int main(int count, char **words)
     test_sizes();
     test_bad_rows();
     test_random_damage();
+    test_lengths();
     for (int i = 1; i < count; i++)
         test_file(words[i]);
     printf("selftest: %lu checks, %lu failures\n", checks, failures);

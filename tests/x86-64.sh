@@ -35,9 +35,12 @@ build() {
         "$@" target/staticlib/libkvk.a $link -o "target/c/$program"
 }
 
+# All of the second program but what makes a program of it.
+second_parts=$(find second -name '*.c' ! -name main.c ! -name 'selftest*')
+
 build_compare() {
-    build compare tests/compare.c tests/material.c \
-        second/card.c second/chance.c second/draft.c second/list.c
+    # shellcheck disable=SC2086
+    build compare tests/compare*.c tests/material.c $second_parts
 }
 
 # run PROGRAM WORD..

@@ -1,5 +1,5 @@
 -- The template's length as it is read and as it is written. Assumes nothing.
-use Prim.Native.Nat.{ℕ, suc, _+_, _≤_}
+use Prim.Native.Nat.{ℕ, suc, _+_, _*_, _≤_}
 use native.Mathlib.Omega.{arith}
 use mathlib.Core.Path.{_≡_, refl, _∙_, subst}
 use mathlib.Core.Bool.{Bool, true, false, cond, _&&_}
@@ -10,8 +10,10 @@ use lib.Dec.{leb, eqb}
 use borrow.Author.Tests.{eqb-true, le-leb, lt-leb, leb-true, leb-false}
 use Rattle.ground.proofs.Lists.{and-left, and-right}
 use Rattle.card.specs.declared.fields.LengthField.the-variants.{One, Two, Other}
-use Rattle.card.specs.Fields.{lengthField, secondByte, lengthAt, fieldTold}
-use Rattle.card.specs.Frame.{fieldWrong, fieldOf, startOf}
+use Rattle.lengths.specs.declared.Length.the-variants as L
+use Rattle.lengths.specs.Lengths.{lengthField, lengthRead, lengthTold}
+use Rattle.card.specs.Fields.{secondByte, lengthAt, fieldTold}
+use Rattle.card.specs.Frame.{fieldWrong, wrongBy, fieldOf, startOf}
 
 -- the template's length as it stands on the card
 abbrev pub sizeOf : List ℕ → ℕ
@@ -29,7 +31,7 @@ read-field l rest lo hi = go (leb l 127) refl
   where
     go : (q : Bool) → leb l 127 ≡ q → Read l (lengthField l ++ rest)
     go true p = rw p (record { right = rw (p, le-leb 70 l lo); size = rw p; used = rw p })
-    go false p = rw p (record { right = rw (le-leb 128 l (leb-false l 127 p), le-leb l 212 hi); size = refl; used = rw p })
+    go false p = rw (p, le-leb l 255 (omega arith)) (record { right = rw (le-leb 128 l (leb-false l 127 p), le-leb l 212 hi); size = refl; used = rw (p, le-leb l 255 (omega arith)) })
 
 -- ---- a length that is read was written
 record Back (bs : List ℕ) : Type 0 where
@@ -57,7 +59,9 @@ back-two n bs h =
     let both : (leb 128 n && leb n 212) ≡ true = passes (leb 128 n && leb n 212) 31 h in
     let lo′ : 128 ≤ n = leb-true 128 n (and-left (leb 128 n) (leb n 212) both) in
     let p : leb n 127 ≡ false = lt-leb n 127 lo′ in
-    record { lo = omega arith; hi = leb-true n 212 (and-right (leb 128 n) (leb n 212) both); used = rw p; bytes = rw p }
+    let hi′ : n ≤ 212 = leb-true n 212 (and-right (leb 128 n) (leb n 212) both) in
+    let q : leb n 255 ≡ true = le-leb n 255 (omega arith) in
+    record { lo = omega arith; hi = hi′; used = rw (p, q); bytes = rw (p, q) }
 
 back : (bs : List ℕ) → fieldWrong (lengthAt bs) ≡ 0 → Back bs
 unfolding fieldWrong
@@ -69,6 +73,24 @@ back (b ∷ bs) h = go (leb b 127) refl (eqb b 0x81) refl bs h
     go false p true e [] h = absurd (omega arith)
     go false p true e (n ∷ bs) h = rw (eqb-true b 0x81 e) (back-two n bs h)
     go false p false e bs h = absurd (omega arith)
+
+-- ---- number 4 and its place, by the answer of the piece that reads lengths
+pub wrong-by-length : (bs : List ℕ) → 3 ≤ length bs → fieldWrong (lengthAt bs) ≡ wrongBy (lengthTold (lengthRead bs)) (getD bs 0 0)
+unfolding fieldWrong lengthRead
+wrong-by-length [] h = absurd (omega arith)
+wrong-by-length (b ∷ []) h = absurd (omega arith)
+wrong-by-length (b ∷ v ∷ []) h = absurd (omega arith)
+wrong-by-length (b ∷ v ∷ w ∷ r) h = go (leb b 127) (eqb b 0x81) refl (eqb b 0x82) (leb v 127) refl (eqb v 0)
+  where
+    go : (p q : Bool) → eqb b 0x81 ≡ q → (t k : Bool) → leb v 127 ≡ k → (j : Bool)
+        → fieldWrong (cond p (One b) (cond q (Two v) (Other b)))
+        ≡ wrongBy (lengthTold (cond p (L.Read b 1) (cond q (cond k L.Long (L.Read v 2)) (cond t (cond j L.Long (L.Read (v * 256 + w) 3)) L.Other)))) b
+    go true q e t k f j = refl
+    go false true e t true f j = rw (lt-leb 128 v (omega (arith, leb-true v 127 f)), e)
+    go false true e t false f j = rw (le-leb 128 v (leb-false v 127 f))
+    go false false e true k f true = rw e
+    go false false e true k f false = rw e
+    go false false e false k f j = rw e
 
 -- ---- behind thirty bytes
 pub beyond : (h ys : List ℕ) (i d : ℕ) → length h ≡ 30 → getD (h ++ ys) (30 + i) d ≡ getD ys i d

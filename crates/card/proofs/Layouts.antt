@@ -12,13 +12,13 @@ use native.Mathlib.Numerals.{add-one}
 use Rattle.edition.specs.Rows.{tags, tagOf}
 use Rattle.edition.specs.declared.Edition.{Edition}
 use Rattle.card.specs.Content.{Content}
-use Rattle.card.specs.Fields.{lengthField}
+use Rattle.lengths.specs.Lengths.{lengthField}
 use Rattle.card.specs.Layout.{body, objectTags, identifier, head, xorAll, templateLength, summed, template, spaces, lasts, filler, objectsOf, layout}
 use Rattle.card.specs.Rules.{Allowed}
 
-pub length-field : (l : ℕ) → (1 ≤ length (lengthField l)) × (length (lengthField l) ≤ 2)
+pub length-field : (l : ℕ) → l ≤ 255 → (1 ≤ length (lengthField l)) × (length (lengthField l) ≤ 2)
 unfolding lengthField
-length-field l = go (leb l 127)
+length-field l h = rw (le-leb l 255 h) (go (leb l 127))
   where
     go : (q : Bool) → (1 ≤ length (cond q (l ∷ []) (0x81 ∷ l ∷ []))) × (length (cond q (l ∷ []) (0x81 ∷ l ∷ [])) ≤ 2)
     go true = (lit≤ tt, lit≤ tt)
@@ -56,9 +56,9 @@ pub record Ends (t last : ℕ) : Type 0 where
   pub bytes : filler t last ≡ before ++ (last ∷ [])
   pub size : length before ≡ t
 
-pub filler-ends : (t last : ℕ) → 2 ≤ t → Ends t last
+pub filler-ends : (t last : ℕ) → 2 ≤ t → t ≤ 255 → Ends t last
 unfolding filler spaces lasts lengthField
-filler-ends t last h = go (leb t 129) refl (eqb t 130) refl
+filler-ends t last h h′ = go (leb t 129) refl (eqb t 130) refl
   where
     go : (q : Bool) → leb t 129 ≡ q → (m : Bool) → eqb t 130 ≡ m → Ends t last
     go true p m e =
@@ -76,15 +76,16 @@ filler-ends t last h = go (leb t 129) refl (eqb t 130) refl
     }
     go false p false e =
         let long : leb (t - 3) 127 ≡ false = lt-leb (t - 3) 127 (omega (arith, leb-false t 129 p, eqb-false t 130 e)) in
+        let two : leb (t - 3) 255 ≡ true = le-leb (t - 3) 255 (omega arith) in
         record {
           before = 0xC0 ∷ 0x81 ∷ (t - 3) ∷ replicate (t - 3) 0x20;
-          bytes = rw (p, e, long);
+          bytes = rw (p, e, long, two);
           size = rw length-replicate (omega (arith, leb-false t 129 p));
         }
 
-pub length-filler : (t last : ℕ) → 2 ≤ t → length (filler t last) ≡ t + 1
-length-filler t last h =
-    let e : Ends t last = filler-ends t last h in
+pub length-filler : (t last : ℕ) → 2 ≤ t → t ≤ 255 → length (filler t last) ≡ t + 1
+length-filler t last h h′ =
+    let e : Ends t last = filler-ends t last h h′ in
     rw (e .bytes, length-append) (omega (arith, e .size))
 
 -- ---- the layout as one row of parts
@@ -100,7 +101,7 @@ layout-parts c o e = rw (e, next, append-assoc)
 pub layout-256 : (e : Edition) (c : Content) → Allowed e c → length (layout c) ≡ 256
 layout-256 e c a =
     let o : List ℕ = objectsOf c in
-    let f = length-field (templateLength o) in
+    let f = length-field (templateLength o) (omega (arith, a .most)) in
     let n : length (summed o) ≡ length (lengthField (templateLength o)) + length o + 3 = length-summed o in
-    let t = length-filler (224 - length (summed o)) (c .last) (omega (arith, a .most)) in
+    let t = length-filler (224 - length (summed o)) (c .last) (omega (arith, a .most)) (omega arith) in
     rw (layout-parts c o refl) (simp (length-append, length-head (c .first) (c .free) (a .free), t) (omega (arith, a .most)))

@@ -6,7 +6,7 @@ use mathlib.Core.Bool.{Bool, true, false, cond, _&&_, _||_}
 use mathlib.Core.List.{List, [], _∷_, _++_}
 use lib.ListN.{length, take, drop, getD, replicate}
 use lib.Dec.{leb, ltb, eqb, lit<, lit≤}
-use borrow.Author.Tests.{eqb-true, leb-true, ltb-true, ne-eqb}
+use borrow.Author.Tests.{eqb-true, le-leb, leb-true, ltb-true, ne-eqb}
 use Rattle.rules.specs.declared.Rule.{Rule}
 use Rattle.rules.specs.declared.Rule.the-variants.{Digits, Text, Lead, Code, Birth, Expiry, Raw}
 use Rattle.edition.specs.declared.Row.{Row}
@@ -20,7 +20,7 @@ use Rattle.ground.proofs.Lists.{true-false, and-left, and-right, leading-before
 use Rattle.rules.proofs.Verdicts.{taken-means}
 use Rattle.edition.proofs.Rows.{formed-head, row-within, permits-most}
 use Rattle.card.specs.Content.{Content}
-use Rattle.card.specs.Fields.{lengthField}
+use Rattle.lengths.specs.Lengths.{lengthField}
 use Rattle.card.specs.Layout.{identifier, head, object, body, templateLength, summed, spaces, lasts, filler, objectTags, objectsOf, layout}
 use Rattle.card.specs.Rules.{entries, RowMet, AllMet, none-left, one-more, firstAllowed, lastAllowed, Allowed}
 use Rattle.card.proofs.Xor.{xor-below}
@@ -149,7 +149,7 @@ tags-octets = octets-by objectTags refl
 -- ---- the other parts
 field-octets : (l : ℕ) → l < 256 → Octets (lengthField l)
 unfolding lengthField
-field-octets l h = go (leb l 127)
+field-octets l h = rw (le-leb l 255 (omega arith)) (go (leb l 127))
   where
     go : (q : Bool) → Octets (cond q (l ∷ []) (0x81 ∷ l ∷ []))
     go true = octet h no-octet

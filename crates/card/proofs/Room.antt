@@ -6,17 +6,8 @@ use borrow.Author.Tests.{le-leb, lt-leb, ne-eqb}
 use mathlib.Core.Path.{_≡_, refl}
 use mathlib.Core.List.{[], _∷_}
 use lib.ListN.{length}
-use Rattle.card.specs.Fields.{lengthField}
+use Rattle.lengths.specs.Lengths.{lengthField}
 use Rattle.card.specs.Layout.{spaces, lasts}
-
--- a length takes one byte or two
-pub field-one : (n : ℕ) → n ≤ 127 → lengthField n ≡ n ∷ []
-unfolding lengthField
-field-one n h = rw (le-leb n 127 h)
-
-pub field-two : (n : ℕ) → 127 < n → lengthField n ≡ 0x81 ∷ n ∷ []
-unfolding lengthField
-field-two n h = rw (lt-leb n 127 h)
 
 -- the spaces of a filler, on both sides of its edge
 pub spaces-below : (t : ℕ) → t ≤ 129 → spaces t ≡ t - 2
@@ -56,6 +47,7 @@ room t h k =
             let e₁ = lt-leb t 129 (omega arith) in
             let e₂ = ne-eqb t 130 (λ e. omega arith) in
             let e₃ = lt-leb (t - 3) 127 (omega arith) in
-            simp (e₁, e₂, e₃) (record { small = omega arith; field = omega arith; some = omega arith; two = omega arith; whole = omega arith })
+            let e₄ = le-leb (t - 3) 255 (omega arith) in
+            simp (e₁, e₂, e₃, e₄) (record { small = omega arith; field = omega arith; some = omega arith; two = omega arith; whole = omega arith })
       ]
     ]

@@ -2,9 +2,10 @@
 use Prim.Native.Nat.{ℕ, _+_, _-_}
 use mathlib.Core.Bool.{cond, _&&_}
 use mathlib.Core.List.{List, [], _∷_, _++_}
-use lib.Dec.{leb}
+use lib.Dec.{leb, eqb}
 use lib.ListN.{take, drop, getD}
 use Rattle.ground.specs.Lists.{agree}
+use Rattle.lengths.specs.declared.ToldLength.{ToldLength}
 use Rattle.card.specs.declared.fields.LengthField.{LengthField}
 use Rattle.card.specs.declared.fields.LengthField.the-variants.{One, Two, Other, Cut}
 use Rattle.card.specs.Fields.{lengthAt, fieldTold}
@@ -24,6 +25,12 @@ fieldWrong (One n) = cond (leb 70 n) 0 31
 fieldWrong (Two n) = cond (leb 128 n && leb n 212) 0 32
 fieldWrong (Other b) = 31
 fieldWrong Cut = 31
+
+-- the same place by the answer of the piece that reads lengths up to 65,535, and the field's first byte
+abbrev pub wrongBy : ToldLength → ℕ → ℕ
+wrongBy field first =
+    cond (eqb (field .used) 1) (cond (leb 70 (field .length)) 0 31)
+    (cond (eqb (field .used) 2) (cond (leb (field .length) 212) 0 32) (cond (eqb first 0x81) 32 31))
 
 abbrev pub fieldOf : List ℕ → LengthField
 fieldOf s = lengthAt (drop 31 s)

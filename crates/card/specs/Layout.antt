@@ -7,7 +7,7 @@ use lib.Dec.{leb, eqb}
 use lib.ListN.{length, take, drop, replicate}
 use Rattle.edition.specs.Rows.{tags}
 use Rattle.card.specs.Content.{Content}
-use Rattle.card.specs.Fields.{lengthField}
+use Rattle.lengths.specs.Lengths.{lengthField}
 
 -- the application identifier
 unfoldable pub identifier : List ℕ

@@ -16,7 +16,7 @@ pub(crate) fn write_hex(bytes: &[u8]) {
     }
 }
 
-fn write_number(n: u64) {
+pub(crate) fn write_number(n: u64) {
     io::write_all(STDOUT_FILENO, b" ");
     io::print_decimal(STDOUT_FILENO, n);
 }

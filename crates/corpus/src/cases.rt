@@ -43,6 +43,19 @@ pub(crate) fn get_length() -> usize {
     number_of(&bytes)
 }
 
+// A span into the head of a room: its length, or the largest number where there is none.
+pub(crate) fn get_span(room: &mut [u8]) -> usize {
+    let length = get_length();
+    if length > room.len() {
+        return usize::MAX;
+    }
+    if get(&mut room[..length]) {
+        length
+    } else {
+        usize::MAX
+    }
+}
+
 // The table of a shipped edition by its number, or after a 0 one that is written out.
 pub(crate) fn get_table(table: &mut [u8]) -> bool {
     let mut which = [0u8; 1];

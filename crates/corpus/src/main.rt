@@ -3,6 +3,7 @@
 // A case that is cut off or malformed ends the run with the line END.
 mod answers;
 mod cases;
+mod foreign;
 
 use libc::STDOUT_FILENO;
 
@@ -76,10 +77,13 @@ fn run_case() -> bool {
     if !cases::get(&mut kind) {
         return false;
     }
+    let mut room = [0u8; 600];
     let is_whole = if kind[0] == b'R' {
         run_read()
     } else if kind[0] == b'W' {
         run_write()
+    } else if kind[0] == b'L' {
+        foreign::run_length(&mut room)
     } else {
         false
     };

@@ -83,7 +83,7 @@ record Framed (s : List ℕ) : Type 0 where
 framed : (s : List ℕ) → FieldBack s → Framed s
 unfolding endOf
 framed s f =
-    let l = length-field (sizeOf s) in
+    let l = length-field (sizeOf s) (omega (arith, f .hi)) in
     let t = take-most (sizeOf s) (drop (startOf s) s) in
     record { end = omega (arith, f .start, f .hi); objects = omega (arith, f .start, f .hi) }
 

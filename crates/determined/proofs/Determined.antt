@@ -1,6 +1,7 @@
 -- No second answer: two answers, and two buffers, that meet a public function's contract for one input are the same. Assumes nothing.
 use mathlib.Core.Path.{_≡_, sym, _∙_}
 use denote.Ref.{now}
+use Rattle.lengths.proofs.Laws
 use Rattle.rules.proofs.Verdicts
 use Rattle.edition.proofs.Rows
 use Rattle.card.proofs.Forms
@@ -12,6 +13,9 @@ use Rattle.ground.proofs.put_byte.Reads as put-byte
 use Rattle.ground.proofs.fill.Reads as fill
 use Rattle.ground.proofs.put_hex.Reads as put-hex
 use Rattle.ground.proofs.put_decimal.Reads as put-decimal
+use Rattle.lengths.proofs.told.Reads as lengths-told
+use Rattle.lengths.proofs.read_length.Reads as lengths-read-length
+use Rattle.lengths.proofs.put_length.Reads as put-length
 use Rattle.edition.proofs.Edition.terminal.Reads as terminal
 use Rattle.edition.proofs.Edition.issue.Reads as issue
 use Rattle.edition.proofs.Edition.formed.Reads as formed
@@ -49,6 +53,7 @@ use Rattle.wire.proofs.pack.Reads as pack
 use Rattle.kvk.proofs.kvk_read.Reads as kvk-read
 use Rattle.kvk.proofs.kvk_write.Reads as kvk-write
 use Rattle.kvk.proofs.kvk_edition.Reads as kvk-edition
+use Rattle.kvk.proofs.kvk_length.Reads as kvk-length
 
 -- `Post` is what a contract ensures: of the lifetimes, the arguments, the answer, and what is lent back at exit
 pub byte-at-once : (κs : _) (a : _) (z y : _) (e f : _) → byte-at.Post κs a z e → byte-at.Post κs a y f → z ≡ y
@@ -218,3 +223,19 @@ list-once κs a z y e f p q = p .0 ∙ sym (q .0)
 
 pub list-room-once : (κs : _) (a : _) (z y : _) (e f : _) → list.Post κs a z e → list.Post κs a y f → now (e .1 .1 .0) ≡ now (f .1 .1 .0)
 list-room-once κs a z y e f p q = p .1 .0 ∙ sym (q .1 .0)
+
+-- ---- foreign cards
+pub lengths-told-once : (κs : _) (a : _) (z y : _) (e f : _) → lengths-told.Post κs a z e → lengths-told.Post κs a y f → z ≡ y
+lengths-told-once κs a z y e f p q = p ∙ sym q
+
+pub lengths-read-length-once : (κs : _) (a : _) (z y : _) (e f : _) → lengths-read-length.Post κs a z e → lengths-read-length.Post κs a y f → z ≡ y
+lengths-read-length-once κs a z y e f p q = Laws.length-apart z y (p ∙ sym q)
+
+pub put-length-once : (κs : _) (a : _) (z y : _) (e f : _) → put-length.Post κs a z e → put-length.Post κs a y f → z ≡ y
+put-length-once κs a z y e f p q = p .0 ∙ sym (q .0)
+
+pub put-length-room-once : (κs : _) (a : _) (z y : _) (e f : _) → put-length.Post κs a z e → put-length.Post κs a y f → now (e .0) ≡ now (f .0)
+put-length-room-once κs a z y e f p q = p .1 ∙ sym (q .1)
+
+pub kvk-length-once : (κs : _) (a : _) (z y : _) (e f : _) → kvk-length.Post κs a z e → kvk-length.Post κs a y f → z ≡ y
+kvk-length-once κs a z y e f p q = p ∙ sym q

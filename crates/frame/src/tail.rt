@@ -5,11 +5,12 @@ ghost use Prim.Native.Nat.{_+_, _≤_};
 ghost use lib.Dec.{eqb};
 ghost use lib.ListN.{length, replicate};
 ghost use Rattle.ground.specs.Lists.{agree};
-ghost use Rattle.card.specs.Fields.{lengthField};
+ghost use Rattle.lengths.specs.Lengths.{lengthField};
 ghost use Rattle.frame.specs.Checks.{sameTail, sameIn};
 
 // How many bytes the tag and the length of a filler of so many spaces take.
 fn lead_size(count: usize) -> usize
+    requires { ⌜ count ≤ 255 ⌝ }
     ensures { λ r. ⌜ r ≡ 1 + length (lengthField count) ⌝ }
 {
     if count <= 127 { 2 } else { 3 }

@@ -1,2 +1,3 @@
 -- The calls of the C interface.
 pub mod Calls
+pub mod Foreign

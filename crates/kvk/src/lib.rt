@@ -1,10 +1,13 @@
 // The C interface: the calls of include/kvk.h, on editions, records and images as lent bytes.
 // Any table, image, record and room may be lent, of whatever size: what has not its size is refused with a number.
 // The number is told even where the room is left: 20 for the room comes before all that is amiss with the card.
+mod foreign;
+
 use card::Reading;
 use card::Record;
 use card::Refusal;
 use edition::Edition;
+pub use foreign::kvk_length;
 ghost use mathlib.Core.Path.{_≡_};
 ghost use mathlib.Core.Bool.{cond};
 ghost use lib.Dec.{eqb};

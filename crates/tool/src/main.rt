@@ -2,6 +2,7 @@
 // What a command writes goes to standard output, what it has to say to standard error.
 // A program has no exit status, so the last byte of each run, on descriptor 3, is its status as a digit.
 mod batch;
+mod length;
 mod list;
 mod words;
 
@@ -16,6 +17,9 @@ fn run(name: &[u8]) -> u8
     }
     if ground::is_same(name, b"batch") {
         return batch::run();
+    }
+    if ground::is_same(name, b"length") {
+        return length::run();
     }
     words::misused(b"there is no such command")
 }

@@ -5,7 +5,7 @@ use Prim.Native.Nat.{ℕ, _+_, _-_, _≤_}
 use native.Mathlib.Omega.{arith}
 use lib.ListN.{length, set, replicate, length-append, length-replicate}
 use lib.Seq.{sets}
-use Rattle.card.specs.Fields.{lengthField}
+use Rattle.lengths.specs.Lengths.{lengthField}
 use Rattle.card.specs.Layout.{spaces, lasts, filler}
 use Rattle.card.proofs.Room.{room}
 use Rattle.ground.proofs.Stores.{sets-then, sets-whole}

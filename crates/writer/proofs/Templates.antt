@@ -7,7 +7,7 @@ use native.Mathlib.Omega.{arith}
 use lib.ListN.{length, take, drop, set, length-append}
 use lib.Seq.{sets}
 use Rattle.card.specs.Content.{Content}
-use Rattle.card.specs.Fields.{lengthField}
+use Rattle.lengths.specs.Lengths.{lengthField}
 use Rattle.card.specs.Layout.{head, templateLength, summed, xorAll, template, filler, objectsOf, layout}
 use Rattle.ground.proofs.Stores.{sets-then, stored, stored-first}
 use Rattle.writer.proofs.Heading.{head-long}
@@ -25,7 +25,7 @@ template-long s = simp (length-append, summed-long)
 pub template-most : (s : List ℕ) → templateLength s ≤ 212 → length (template s) ≤ 215
 template-most s h =
     let a = template-long s in
-    let b = length-field (templateLength s) in
+    let b = length-field (templateLength s) (omega arith) in
     omega arith
 
 -- where the objects begin, once the length is written
@@ -36,7 +36,7 @@ pub record Begun (s : List ℕ) (n start : ℕ) : Type 0 where
   pub most : length (lengthField n) ≤ 2
 
 pub begun : (s : List ℕ) (m start : ℕ) → m ≡ length s → templateLength s ≤ 212 → start ≡ 31 + length (lengthField (m + 3)) → Begun s (m + 3) start
-begun s m start e h f = record { n-is = ap (λ (k : ℕ). k + 3) e; start-is = f; few = h; most = length-field (m + 3) .1 }
+begun s m start e h f = record { n-is = ap (λ (k : ℕ). k + 3) e; start-is = f; few = h; most = length-field (m + 3) (omega arith) .1 }
 
 module _ (s : List ℕ) {n start end : ℕ} (at : Begun s n start) (he : end ≡ start + length s) where
   pub template-ends : end + 2 + 1 ≡ 30 + length (template s)

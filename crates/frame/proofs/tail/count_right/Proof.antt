@@ -1,5 +1,8 @@
 -- `frame::tail::count_right` meets its contract: each part is passed or holds the first difference. Assumes nothing.
+use Prim.Native.Nat.{_-_}
 use native.Mathlib.Omega.{arith}
+use lib.ListN.{length}
+use Rattle.card.proofs.Room.{room}
 use Rattle.frame.proofs.Tails.{Placed, sizes, lead-stops, spaces-stop, ends-differ, ends-same}
 use borrow.Author.Needs.{needs}
 use Rattle.frame.proofs.tail.count_right.Statement.{statement}
@@ -12,7 +15,9 @@ count-spaces-requires : tie.Need-count-spaces-requires
 count-spaces-requires c κs = search needs
 
 lead-size-requires : tie.Need-lead-size-requires
-lead-size-requires c κs = search needs
+lead-size-requires c κs =
+    let r = room (length (c .before .before .args .part .now) - 1) (omega arith) (omega arith) in
+    omega (arith, r .small, c .count-spaces .ensures)
 
 placed : (c : tie.After-lead-size) → Placed (c .before .before .before .args .part .now) (c .before .count-spaces .result) (c .lead-size .result)
 placed c = record {

@@ -1,6 +1,6 @@
 -- `frame::tail::lead_same` meets its contract, form by form. Assumes nothing.
 use borrow.Author.Tests.{le-leb, lt-leb}
-use Rattle.card.specs.Fields.{lengthField}
+use Rattle.lengths.specs.Lengths.{lengthField}
 use borrow.Author.Needs.{needs}
 use Rattle.frame.proofs.tail.lead_same.Statement.{statement}
 use Rattle.frame.proofs.tail.lead_same.Tie as tie
@@ -26,7 +26,7 @@ returns c = rw (le-leb _ _ (c .before .before .if1 .taken)) (c .count-same .ensu
 
 returns-2 : tie.Need-returns-2
 unfolding lengthField
-returns-2 c = rw (lt-leb _ _ (c .before .before .if1 .left)) (c .count-same2 .ensures)
+returns-2 c = rw (lt-leb _ _ (c .before .before .if1 .left), le-leb _ _ (c .before .before .before .before .pre .1)) (c .count-same2 .ensures)
 
 pub lead-same-spec : {M : Type 1} → statement M
 lead-same-spec =

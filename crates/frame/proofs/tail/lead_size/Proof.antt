@@ -1,6 +1,6 @@
 -- `frame::tail::lead_size` meets its contract: a tag, and one byte of length or two. Assumes nothing.
 use borrow.Author.Tests.{le-leb, lt-leb}
-use Rattle.card.specs.Fields.{lengthField}
+use Rattle.lengths.specs.Lengths.{lengthField}
 use Rattle.frame.proofs.tail.lead_size.Statement.{statement}
 use Rattle.frame.proofs.tail.lead_size.Tie as tie
 
@@ -10,7 +10,7 @@ returns c = rw (le-leb _ _ (c .if1 .taken))
 
 returns-2 : tie.Need-returns-2
 unfolding lengthField
-returns-2 c = rw (lt-leb _ _ (c .if1 .left))
+returns-2 c = rw (lt-leb _ _ (c .if1 .left), le-leb _ _ (c .before .pre))
 
 pub lead-size-spec : {M : Type 1} → statement M
 lead-size-spec = tie.close (tie.spec returns returns-2)
