@@ -79,13 +79,16 @@ uint64_t kvk_length(const uint8_t *bytes, size_t bytes_len);
    11   names, or country, postal code and town, too long   tag of the first present      that tag
    12   the template goes on behind the checksum            the byte behind it            0
    13   the checksum                                        its value byte                0
-   14   the filler or the last bytes                        first wrong address           0
+   14   the filler's tag                                    its address                   0
+   15   the filler's length                                 first wrong address           0
+   16   a byte of the filler's value                        first wrong address           0
+   17   the byte or bytes behind the filler                 first wrong address           0
    20   a record, or a room to be filled, has not its size  0                             0
    70   a length field has another first byte               0                             0
    71   a length field is cut short, or not there           0                             0
    72   a length field is longer than needed                0                             0
 
-   When writing the place is 0, but with 9 the index within the value. 15 to 19 are not in use.
+   When writing the place is 0, but with 9 the index within the value. 18 and 19 are not in use.
 
    80 fund name        82 insured number    84 title          88 birth date     8C town
    81 fund number      83 status            85 given name     89 street         8D validity

@@ -480,15 +480,15 @@ static uint64_t check_filler(const uint8_t *image, size_t start)
     size_t i = first_difference(image + start, expected, 0, count);
 
     if (i < count)
-        return refusal(14, start + i, 0);
+        return refusal(i == 0 ? 14 : 15, start + i, 0);
     if (memcmp(image + start + count, spaces, end - start - count) != 0) {
         i = first_difference(image + start + count, spaces, 0, end - start - count);
-        return refusal(14, start + count + i, 0);
+        return refusal(16, start + count + i, 0);
     }
     if (end == 254 && image[254] != image[255])
-        return refusal(14, 254, 0);
+        return refusal(17, 254, 0);
     if (!last_byte_is_allowed(image[0], image[255]))
-        return refusal(14, 255, 0);
+        return refusal(17, 255, 0);
     return 0;
 }
 

@@ -422,6 +422,30 @@ static void filler_forms(void)
     }
 }
 
+/* Two wrong parts of the tail: the earlier one is told. */
+static void tail_order(void)
+{
+    static const size_t lengths[] = {71, 92, 93, 94, 128, 212};
+    uint8_t record[RECORD_SIZE];
+    struct draft draft, damaged;
+    size_t i, first, then;
+
+    for (i = 0; i < COUNT(lengths); i++) {
+        if (!chance_record_of(record, terminal.table, lengths[i]))
+            continue;
+        draft_card(&draft, record);
+        for (first = 0; first < 5; first++) {
+            for (then = first + 1; then < 6; then++) {
+                size_t places[6] = {draft.end, draft.end + 1, draft.end + 2, 253, 254, 255};
+                damaged = draft;
+                damaged.image[places[first]] ^= 0x41;
+                damaged.image[places[then]] ^= 0x41;
+                emit_draft(&terminal, &damaged);
+            }
+        }
+    }
+}
+
 static void last_bytes(size_t length)
 {
     static const uint8_t first[] = {0x82, 0x92, 0xA2};
@@ -592,6 +616,7 @@ void reading_cases(void)
     first_wrong_byte();
     fillers();
     filler_forms();
+    tail_order();
     last_bytes(70 + 4);
     last_bytes(93);
     checksums();

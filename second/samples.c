@@ -183,7 +183,27 @@ static void make_checksum(struct draft *draft)
     draft->image[draft->checksum_at] ^= (uint8_t)(0x60 ^ 70);
 }
 
-static void make_filler(struct draft *draft)
+static void make_filler_tag(struct draft *draft)
+{
+    make_full(draft);
+    draft->image[draft->end] = 0x00;
+}
+
+/* '81' '7F' at L = 93, where '7F' alone is due. */
+static void make_filler_length(struct draft *draft)
+{
+    make_two_last_bytes(draft);
+    draft->image[draft->end + 1] = 0x81;
+    draft->image[draft->end + 2] = 0x7F;
+}
+
+static void make_filler_value(struct draft *draft)
+{
+    make_full(draft);
+    draft->image[240] = 0x00;
+}
+
+static void make_last_byte(struct draft *draft)
 {
     make_full(draft);
     draft->image[255] = 0xFF;
@@ -211,7 +231,10 @@ static const struct {
     {"refused-11-sum-of-names", make_sum},
     {"refused-12-behind-the-checksum", make_going_on},
     {"refused-13-checksum", make_checksum},
-    {"refused-14-last-byte", make_filler}
+    {"refused-14-filler-tag", make_filler_tag},
+    {"refused-15-filler-length", make_filler_length},
+    {"refused-16-filler-value", make_filler_value},
+    {"refused-17-last-byte", make_last_byte}
 };
 
 int write_samples(const char *folder)

@@ -212,7 +212,7 @@ static void test_towns_and_last_bytes(void)
     record[0] = 0x82;
     CHECK(read_card(terminal, record) == 0 && write_record(terminal, record) == 0);
     record[0] = 0xA2;
-    CHECK(read_card(terminal, record) == told(14, 255, 0) && write_record(terminal, record) == told(3, 0, 0));
+    CHECK(read_card(terminal, record) == told(17, 255, 0) && write_record(terminal, record) == told(3, 0, 0));
 }
 
 static void test_last_bytes_at_93(void)
@@ -231,7 +231,30 @@ static void test_last_bytes_at_93(void)
         draft.image[0] = ends[i].first;
         draft.image[254] = ends[i].at_254;
         draft.image[255] = ends[i].at_255;
-        CHECK(read_draft(terminal, &draft) == (ends[i].place == 0 ? 0 : told(14, ends[i].place, 0)));
+        CHECK(read_draft(terminal, &draft) == (ends[i].place == 0 ? 0 : told(17, ends[i].place, 0)));
+    }
+}
+
+/* Each byte of the tail made wrong alone, with the filler of each form. */
+static void test_tails(void)
+{
+    static const struct { uint8_t length, length_bytes; } layouts[] = {{70, 2}, {92, 2}, {93, 1}, {94, 1}, {212, 1}};
+    uint8_t record[RECORD_SIZE];
+    struct draft draft;
+    size_t i, address;
+
+    for (i = 0; i < COUNT(layouts); i++) {
+        CHECK(chance_record_of(record, terminal, layouts[i].length));
+        draft_card(&draft, record);
+        for (address = draft.end; address < 256; address++) {
+            size_t behind = layouts[i].length == 93 ? 254 : 255;
+            size_t place = behind == 254 && address == 255 ? 254 : address;
+            unsigned number = address == draft.end ? 14 : address <= draft.end + layouts[i].length_bytes ? 15
+                            : address < behind ? 16 : 17;
+            draft.image[address] ^= 0x55;
+            CHECK(read_draft(terminal, &draft) == told(number, (unsigned)place, 0));
+            draft.image[address] ^= 0x55;
+        }
     }
 }
 
@@ -419,6 +442,7 @@ int main(int count, char **words)
     test_dates();
     test_towns_and_last_bytes();
     test_last_bytes_at_93();
+    test_tails();
     test_slips();
     test_sizes();
     test_bad_rows();

@@ -3,16 +3,19 @@ use mathlib.Core.Path.{_≡_, refl}
 use mathlib.Core.Bool.{Bool, true, false, cond}
 use native.Mathlib.Omega.{arith}
 use borrow.Author.Tests.{eq-eqb, ne-eqb, eqb-true, eqb-false}
-use Prim.Native.Nat.{ℕ}
+use Prim.Native.Nat.{ℕ, _+_}
 use mathlib.Core.List.{List}
-use lib.Dec.{eqb}
-use lib.ListN.{take}
+use lib.Dec.{eqb, leb}
+use lib.ListN.{length, take}
 use Rattle.edition.specs.declared.Edition.{Edition}
 use Rattle.edition.specs.declared.Formed.{Formed}
 use Rattle.edition.specs.declared.Formed.the-variants.{Well, Bad}
 use Rattle.card.specs.declared.Refusal.{Refusal}
 use Rattle.card.specs.Content.{Content}
 use Rattle.card.specs.Refusals.{none, gate, orElse, badRow}
+use Rattle.lengths.specs.Lengths.{lengthField}
+use Rattle.card.specs.Layout.{spaces}
+use Rattle.card.specs.Frame.{tailPart}
 use Rattle.card.specs.Places.{noPlaces, placed, placesOf}
 use Rattle.card.specs.Walk.{Walked, stopped}
 use Rattle.card.specs.Reading.{accepted, refused, valuesIn, walkRefusal, walkOf, readRefusal, contentAt, answered, answer}
@@ -74,6 +77,20 @@ pub gate-in : (q : Bool) (x w : Refusal) → (x .number ≡ 0 → ⊥) → gate 
 unfolding gate
 gate-in true x w n e = (refl, e)
 gate-in false x w n e = absurd (n e)
+
+-- what holds of 14 to 17 holds of a wrong tail's number
+pub of-tail : (P : ℕ → Type 0) → P 14 → P 15 → P 16 → P 17 → (t at : ℕ) → P (tailPart t at)
+unfolding tailPart
+of-tail P p14 p15 p16 p17 t at = go (eqb at 0) (leb at (length (lengthField (spaces t)))) (leb at (length (lengthField (spaces t)) + spaces t))
+  where
+    go : (a b c : Bool) → P (cond a 14 (cond b 15 (cond c 16 17)))
+    go true b c = p14
+    go false true c = p15
+    go false false true = p16
+    go false false false = p17
+
+pub tail-some : (t at : ℕ) → tailPart t at ≡ 0 → ⊥
+tail-some = of-tail (λ (n : ℕ). n ≡ 0 → ⊥) (λ e. omega arith) (λ e. omega arith) (λ e. omega arith) (λ e. omega arith)
 
 pub table-well : (f : Formed) → badRow f .number ≡ 0 → f ≡ Well
 unfolding badRow

@@ -19,7 +19,7 @@ use Rattle.card.specs.Sums.{sumsRefusal}
 use Rattle.card.specs.Walk.{Walked, through, stopped, tagsOf}
 use Rattle.card.specs.Frame.{freeOf, headEnd, startOf, endOf, tailEnd, objectsIn}
 use Rattle.card.specs.Reading.{objectsRefusal, valuesIn, restIn, frontRefusal, restRefusal, checksumRefusal, tailRefusal, walkRefusal, walkOf, readRefusal}
-use Rattle.card.proofs.Chains.{neither, gate-in, table-well}
+use Rattle.card.proofs.Chains.{neither, gate-in, tail-some, table-well}
 use Rattle.card.proofs.Walks.{sound, walk-refuses}
 use Rattle.card.proofs.Seventeen.{withEight, Table, table-of}
 use Rattle.card.proofs.FieldsRead.{FieldBack, field-back}
@@ -129,8 +129,8 @@ past-in e s n b =
     let g1 = gate-in _ _ _ (omega arith) (n3 .first) in
     let g2 = gate-in _ _ _ (omega arith) (g1 .1) in
     let g3 = gate-in _ _ _ (omega arith) (n4 .first) in
-    let g4 = gate-in _ _ _ (omega arith) (n4 .second) in
-    let g5 = gate-in _ _ _ (omega arith) (g4 .1) in (
+    let g4 = gate-in _ _ _ (tail-some _ _) (n4 .second) in
+    let g5 = gate-in _ _ _ (tail-some _ _) (g4 .1) in (
       t,
       record {
         names = rw (t .values) at (g1 .0);

@@ -3,13 +3,14 @@ use Prim.Native.Nat.{ℕ, _+_, _-_}
 use mathlib.Core.Bool.{cond, _&&_}
 use mathlib.Core.List.{List, [], _∷_, _++_}
 use lib.Dec.{leb, eqb}
-use lib.ListN.{take, drop, getD}
+use lib.ListN.{length, take, drop, getD}
 use Rattle.ground.specs.Lists.{agree}
 use Rattle.lengths.specs.declared.ToldLength.{ToldLength}
 use Rattle.card.specs.declared.fields.LengthField.{LengthField}
 use Rattle.card.specs.declared.fields.LengthField.the-variants.{One, Two, Other, Cut}
+use Rattle.lengths.specs.Lengths.{lengthField}
 use Rattle.card.specs.Fields.{lengthAt, fieldTold}
-use Rattle.card.specs.Layout.{head, filler}
+use Rattle.card.specs.Layout.{head, spaces, filler}
 
 -- the free bytes, 6 to 16 and 29
 unfoldable pub freeOf : List ℕ → List ℕ
@@ -49,3 +50,11 @@ objectsIn s = take (fieldTold (fieldOf s) .length) (drop (startOf s) s)
 -- the first address from the template's end on whose byte is not as it must be; 256 where all are
 unfoldable pub tailEnd : List ℕ → ℕ
 tailEnd s = endOf s + agree (filler (255 - endOf s) (getD s 255 0)) (drop (endOf s) s)
+
+-- 14 to 17: the number of the part in which the byte lies that stands so many bytes behind the start of a filler, where t is 255 less its
+-- start: the filler's tag, its length bytes in the form due, a filler value byte, the byte or bytes after it
+unfoldable pub tailPart : ℕ → ℕ → ℕ
+tailPart t at =
+    cond (eqb at 0) 14
+    (cond (leb at (length (lengthField (spaces t)))) 15
+    (cond (leb at (length (lengthField (spaces t)) + spaces t)) 16 17))

@@ -1,4 +1,4 @@
--- The answer to an image: the first refusal in the document's order, 1, 2, 3, 4; object by object; then 12, 11, 13, 14; or else its content.
+-- The answer to an image: the first refusal in the document's order, 1, 2, 3, 4; object by object; then 12, 11, 13, 14 to 17; or else its content.
 use Prim.Native.Nat.{ℕ, _-_}
 use mathlib.Core.Bool.{cond}
 use mathlib.Core.List.{List, [], map}
@@ -13,7 +13,7 @@ use Rattle.card.specs.Refusals.{refuse, none, gate, orElse, sizeRefusal,
 use Rattle.card.specs.Layout.{tagAt, xorAll}
 use Rattle.card.specs.Rules.{entries, firstAllowed, lastAllowed}
 use Rattle.card.specs.Sums.{sumsRefusal}
-use Rattle.card.specs.Frame.{freeOf, headEnd, fieldWrong, fieldOf, startOf, endOf, objectsIn, tailEnd}
+use Rattle.card.specs.Frame.{freeOf, headEnd, fieldWrong, fieldOf, startOf, endOf, objectsIn, tailEnd, tailPart}
 use Rattle.card.specs.Walk.{Walked, through, stopped, walk}
 
 pub data Answer : Type 0 where
@@ -50,11 +50,14 @@ restRefusal end left = gate (eqb left 0) (refuse 12 (end - left) 0) none
 unfoldable pub checksumRefusal : List ℕ → Refusal
 checksumRefusal s = gate (eqb (getD s (endOf s - 1) 0) (xorAll (take (endOf s - 31) (drop 30 s)))) (refuse 13 (endOf s - 1) 0) none
 
--- 14: the filler, then the last byte
-unfoldable pub tailRefusal : List ℕ → Refusal
-tailRefusal s = gate (eqb (tailEnd s) 256) (refuse 14 (tailEnd s) 0) (gate (lastAllowed (getD s 0 0) (getD s 255 0)) (refuse 14 255 0) none)
+-- 14 to 17, by the part in which the first wrong address lies: the filler, then the last byte
+abbrev pub tailWrong : List ℕ → ℕ → Refusal
+tailWrong s at = refuse (tailPart (255 - endOf s) (at - endOf s)) at 0
 
--- the objects; 12; 11; 13; 14
+unfoldable pub tailRefusal : List ℕ → Refusal
+tailRefusal s = gate (eqb (tailEnd s) 256) (tailWrong s (tailEnd s)) (gate (lastAllowed (getD s 0 0) (getD s 255 0)) (tailWrong s 255) none)
+
+-- the objects; 12; 11; 13; 14 to 17
 unfoldable pub walkRefusal : List ℕ → Walked → Refusal
 walkRefusal s w =
     orElse (objectsRefusal w)

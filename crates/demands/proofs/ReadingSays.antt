@@ -23,9 +23,9 @@ use Rattle.card.specs.Layout.{head, body, tagAt, filler}
 use Rattle.card.specs.Rules.{Entry, entries, objectRows, isZero, firstPresent}
 use Rattle.card.specs.Sums.{sumsRefusal}
 use Rattle.card.specs.Walk.{Walked, through, stopped, walk}
-use Rattle.card.specs.Frame.{freeOf, headEnd, fieldWrong, fieldOf, startOf, endOf, tailEnd, objectsIn}
+use Rattle.card.specs.Frame.{freeOf, headEnd, fieldWrong, fieldOf, startOf, endOf, tailEnd, tailPart, objectsIn}
 use Rattle.card.specs.Reading.{refused, frontRefusal, restRefusal, checksumRefusal, tailRefusal, walkRefusal, walkOf, readRefusal, answer}
-use Rattle.card.proofs.Chains.{or-after, gate-after, gate-in, table-well, refused-in}
+use Rattle.card.proofs.Chains.{of-tail, or-after, gate-after, gate-in, table-well, refused-in}
 use Rattle.card.proofs.Layouts.{length-field}
 use Rattle.card.proofs.Walks.{sound, In, front, behind, Stops, no-tag, at-row, at-length, stops, stops-some}
 use Rattle.card.proofs.Seventeen.{Table, table-of, withEight}
@@ -185,7 +185,11 @@ sums-says e s all rest t f q =
     gate-after (Says e) _ _ _ (λ z some. of-row 11 _ _ refl (group-low e s all rest _ t f q) (omega (arith, first-most 6 all (omega arith)))) (λ z.
     gate-after (Says e) _ _ _ (λ z some. of-row 11 _ _ refl (group-low e s all rest _ t f q) (omega (arith, first-most 12 all (omega arith)))) (λ z. nothing e))
 
--- ---- 14
+-- ---- 14 to 17
+tail-among : (t at : ℕ) → among (tailPart t at) (1 ∷ 3 ∷ 4 ∷ 5 ∷ 12 ∷ 13 ∷ 14 ∷ 15 ∷ 16 ∷ 17 ∷ []) ≡ true
+unfolding among
+tail-among = of-tail (λ (n : ℕ). among n (1 ∷ 3 ∷ 4 ∷ 5 ∷ 12 ∷ 13 ∷ 14 ∷ 15 ∷ 16 ∷ 17 ∷ []) ≡ true) refl refl refl refl
+
 tail-below : (s : List ℕ) → length s ≡ 256 → Framed s → (tailEnd s ≡ 256 → ⊥) → tailEnd s < 256
 unfolding tailEnd
 tail-below s n f u =
@@ -206,8 +210,8 @@ walk-says e s (through all rest) t n f q =
     or-after (Says e) _ _ (gate-after (Says e) _ _ _ (λ z some. no-row 12 _ refl (omega arith)) (λ z. nothing e)) (λ z.
     or-after (Says e) _ _ (sums-says e s all rest t f q) (λ z.
     or-after (Says e) _ _ (gate-after (Says e) _ _ _ (λ z some. no-row 13 _ refl (omega arith)) (λ z. nothing e)) (λ z.
-    gate-after (Says e) _ _ _ (λ z some. no-row 14 _ refl (tail-below s n f (eqb-false (tailEnd s) 256 z))) (λ z.
-    gate-after (Says e) _ _ _ (λ z some. no-row 14 255 refl (omega arith)) (λ z. nothing e))))))
+    gate-after (Says e) _ _ _ (λ z some. no-row _ _ (tail-among _ _) (tail-below s n f (eqb-false (tailEnd s) 256 z))) (λ z.
+    gate-after (Says e) _ _ _ (λ z some. no-row _ 255 (tail-among _ _) (omega arith)) (λ z. nothing e))))))
 
 chain-says : (e : Edition) (s : List ℕ) → LentEdition e → Says e (readRefusal e s)
 unfolding readRefusal among

@@ -49,7 +49,7 @@ lengthsOf e k = getD (e .rows) k noRow .lengths
 
 -- what a reading may be refused with: the place is an address; the tag is that of a row with 2, 6, 7, 8, 9, 10 and 11, else 0; with 7 come the ends of that row's set, else 0
 pub data ReadingSays (e : Edition) : Refusal → Type 0 where
-  no-row : (number place : ℕ) → among number (1 ∷ 3 ∷ 4 ∷ 5 ∷ 12 ∷ 13 ∷ 14 ∷ []) ≡ true → place < 256 → ReadingSays e (refuse number place 0)
+  no-row : (number place : ℕ) → among number (1 ∷ 3 ∷ 4 ∷ 5 ∷ 12 ∷ 13 ∷ 14 ∷ 15 ∷ 16 ∷ 17 ∷ []) ≡ true → place < 256 → ReadingSays e (refuse number place 0)
   of-row : (number place k : ℕ) → among number (2 ∷ 6 ∷ 8 ∷ 9 ∷ 10 ∷ 11 ∷ []) ≡ true → place < 256 → k < 17 → ReadingSays e (refuse number place (tagOf k))
   of-length : (place k : ℕ) → place < 256 → k < 17 → ReadingSays e (refuseLength place (tagOf k) (lengthsOf e k))
 

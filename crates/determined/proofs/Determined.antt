@@ -38,6 +38,7 @@ use Rattle.card.proofs.check_sums.Reads as check-sums
 use Rattle.card.proofs.Places.refused.Reads as places-refused
 use Rattle.frame.proofs.check_front.Reads as check-front
 use Rattle.frame.proofs.count_tail.Reads as count-tail
+use Rattle.frame.proofs.number_tail.Reads as number-tail
 use Rattle.objects.proofs.list_objects.Reads as list-objects
 use Rattle.reader.proofs.places.Reads as places
 use Rattle.reader.proofs.read.Reads as read
@@ -118,6 +119,9 @@ places-refused-once κs a z y e f p q = p ∙ sym q
 
 pub count-tail-once : (κs : _) (a : _) (z y : _) (e f : _) → count-tail.Post κs a z e → count-tail.Post κs a y f → z ≡ y
 count-tail-once κs a z y e f p q = p ∙ sym q
+
+pub number-tail-once : (κs : _) (a : _) (z y : _) (e f : _) → number-tail.Post κs a z e → number-tail.Post κs a y f → z ≡ y
+number-tail-once κs a z y e f p q = p ∙ sym q
 
 pub check-front-once : (κs : _) (a : _) (z y : _) (e f : _) → check-front.Post κs a z e → check-front.Post κs a y f → z ≡ y
 check-front-once κs a z y e f p q = p ∙ sym q

@@ -2,7 +2,7 @@
 use Prim.Native.Nat.{ℕ, zero, suc, _+_, _-_, _≤_, _<_}
 use native.Mathlib.Nat.{add-zero}
 use native.Mathlib.Omega.{arith}
-use mathlib.Core.Path.{_≡_, sym, ap, _∙_}
+use mathlib.Core.Path.{_≡_, refl, sym, ap, _∙_}
 use mathlib.Core.List.{List, _∷_, _++_}
 use lib.ListN.{length, getD, take, drop, replicate, length-take, length-drop, length-replicate}
 use lib.Seq.{getD-drop}
@@ -12,8 +12,8 @@ use Rattle.lengths.specs.Lengths.{lengthField}
 use Rattle.card.specs.Layout.{spaces, lasts, filler}
 use Rattle.card.proofs.Room.{room}
 use Rattle.ground.proofs.Runs.{agree-short, agree-over, agree-none, agree-all, part-stops, part-passes, part-to-end}
-use Rattle.card.specs.Frame.{endOf, tailEnd}
-use borrow.Author.Tests.{le-leb}
+use Rattle.card.specs.Frame.{endOf, tailEnd, tailPart}
+use borrow.Author.Tests.{eq-eqb, ne-eqb, le-leb, lt-leb}
 use Rattle.frame.specs.Checks.{sameTail, sameIn, Framed}
 
 -- a part behind a template, its n spaces beginning at `start`
@@ -119,3 +119,34 @@ tail-counted s f n e =
 pub tail-most : (s : List ℕ) → Framed s (endOf s) → tailEnd s ≤ 256
 unfolding tailEnd
 tail-most s f = omega (arith, agree-within (filler (255 - endOf s) (getD s 255 0)) (drop (endOf s) s), length-drop (endOf s) s, f .long, f .most)
+
+-- ---- in which part a byte lies, where n spaces begin at `start`
+module _ (t at n start : ℕ) (counted : n ≡ spaces t) (led : start ≡ 1 + length (lengthField n)) where
+  field-before : 1 + length (lengthField (spaces t)) ≡ start
+  field-before = sym (led ∙ ap (λ (m : ℕ). 1 + length (lengthField m)) counted)
+
+  pub in-tag : at ≡ 0 → 14 ≡ tailPart t at
+  unfolding tailPart
+  in-tag e = rw (eq-eqb at 0 e) refl
+
+  pub in-length : (at ≡ 0 → ⊥) → at < start → 15 ≡ tailPart t at
+  unfolding tailPart
+  in-length some h = rw (ne-eqb at 0 some, le-leb at (length (lengthField (spaces t))) (omega (arith, field-before))) refl
+
+  pub in-spaces : (at ≡ 0 → ⊥) → start ≤ at → at < start + n → 16 ≡ tailPart t at
+  unfolding tailPart
+  in-spaces some past h =
+      rw (
+        ne-eqb at 0 some,
+        lt-leb at (length (lengthField (spaces t))) (omega (arith, field-before)),
+        le-leb at (length (lengthField (spaces t)) + spaces t) (omega (arith, field-before, counted)),
+      ) refl
+
+  pub in-last : (at ≡ 0 → ⊥) → start + n ≤ at → 17 ≡ tailPart t at
+  unfolding tailPart
+  in-last some h =
+      rw (
+        ne-eqb at 0 some,
+        lt-leb at (length (lengthField (spaces t))) (omega (arith, field-before)),
+        lt-leb at (length (lengthField (spaces t)) + spaces t) (omega (arith, field-before, counted)),
+      ) refl

@@ -11,7 +11,7 @@ use Rattle.card.specs.declared.fields.LengthField.{LengthField}
 use Rattle.card.specs.Refusals.{none, orElse, sizeRefusal}
 use Rattle.card.specs.Fields.{fieldTold}
 use Rattle.card.specs.Layout.{filler}
-use Rattle.card.specs.Frame.{fieldWrong, startOf, endOf}
+use Rattle.card.specs.Frame.{fieldWrong, startOf, endOf, tailPart}
 use Rattle.card.specs.Reading.{frontRefusal}
 use Rattle.frame.specs.declared.Front.{Front}
 use Rattle.frame.specs.declared.field.Span.{Span}
@@ -37,6 +37,10 @@ sameTail p = agree (filler (length p - 1) (getD p (length p - 1) 0)) p
 
 unfoldable pub sameIn : List ℕ → ℕ
 sameIn p = cond (leb 3 (length p) && leb (length p) 256) (sameTail p) 0
+
+-- the number of the part in which a byte of such a part lies
+unfoldable pub partIn : ℕ → ℕ → ℕ
+partIn size at = cond (leb 3 size && leb size 256) (tailPart (size - 1) at) 0
 
 -- the address behind the template, where the length field is right
 pub record Framed (s : List ℕ) (end : ℕ) : Type 0 where

@@ -10,6 +10,7 @@ use card::Refusal;
 use field::read_span;
 use opening::refuse_open;
 pub use tail::count_tail;
+pub use tail::number_tail;
 ghost use mathlib.Core.Path.{_≡_};
 ghost use Rattle.frame.specs.Checks.{frontOf};
 

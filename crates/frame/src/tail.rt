@@ -1,12 +1,13 @@
 // What stands behind the template: the filler, then the last byte or bytes.
 ghost use mathlib.Core.Path.{_≡_};
 ghost use mathlib.Core.List.{_∷_};
-ghost use Prim.Native.Nat.{_+_, _≤_};
+ghost use Prim.Native.Nat.{_+_, _-_, _≤_};
 ghost use lib.Dec.{eqb};
 ghost use lib.ListN.{length, replicate};
 ghost use Rattle.ground.specs.Lists.{agree};
 ghost use Rattle.lengths.specs.Lengths.{lengthField};
-ghost use Rattle.frame.specs.Checks.{sameTail, sameIn};
+ghost use Rattle.card.specs.Frame.{tailPart};
+ghost use Rattle.frame.specs.Checks.{sameTail, sameIn, partIn};
 
 // How many bytes the tag and the length of a filler of so many spaces take.
 fn lead_size(count: usize) -> usize
@@ -101,4 +102,36 @@ pub fn count_tail(part: &[u8]) -> usize
         return 0;
     }
     count_right(part)
+}
+
+// The same as number_tail, of a part that a card may have.
+fn number_part(size: usize, at: usize) -> u8
+    requires { ⌜ (3 ≤ size) × (size ≤ 256) ⌝ }
+    ensures { λ r. ⌜ r ≡ tailPart (size - 1) at ⌝ }
+{
+    let spaces = card::count_spaces(size - 1);
+    let start = lead_size(spaces);
+    if at == 0 {
+        return 14;
+    }
+    if at < start {
+        return 15;
+    }
+    if at < start + spaces {
+        return 16;
+    }
+    17
+}
+
+// 14 to 17: what the byte is that stands so many bytes behind the start of a part of this size; 0 for a part that no card has.
+pub fn number_tail(size: usize, at: usize) -> u8
+    ensures { λ r. ⌜ r ≡ partIn size at ⌝ }
+{
+    if size < 3 {
+        return 0;
+    }
+    if size > 256 {
+        return 0;
+    }
+    number_part(size, at)
 }

@@ -11,11 +11,11 @@ use Rattle.card.specs.Sums.{sumsRefusal, tagBefore}
 use Rattle.card.specs.Reading.{checksumRefusal, tailRefusal}
 use Rattle.card.specs.Places.{noPlaces}
 
--- 13, then 14
+-- 13, then 14 to 17
 abbrev pub endRefusal : List ℕ → Refusal
 endRefusal s = orElse (checksumRefusal s) (tailRefusal s)
 
--- the refusal of a table, or 11, or 13 and 14
+-- the refusal of a table, or 11, or 13 to 17
 unfoldable pub lastRefusal : List ℕ → Places → Refusal
 lastRefusal s t = orElse (t .refusal) (orElse (sumsRefusal (tagBefore (t .starts)) (t .lengths)) (endRefusal s))
 

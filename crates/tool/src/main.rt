@@ -5,6 +5,7 @@ mod batch;
 mod length;
 mod list;
 mod words;
+mod wrong;
 
 ghost use Prim.Native.Nat.{_<_};
 
