@@ -37,7 +37,8 @@ enum {
 enum { KVK_ROW_COUNT = 17, KVK_ROW_SIZE = 6 };
 
 enum {
-    KVK_DIGITS, KVK_TEXT, KVK_LEAD, KVK_CODE, KVK_BIRTH, KVK_EXPIRY, KVK_RAW
+    KVK_DIGITS, KVK_TEXT, KVK_LEAD, KVK_CODE, KVK_BIRTH, KVK_EXPIRY, KVK_RAW,
+    KVK_NOT_D            /* text other than the single letter D */
 };
 
 enum { KVK_TERMINAL = 1, KVK_ISSUE = 2 };
@@ -75,7 +76,8 @@ uint64_t kvk_length(const uint8_t *bytes, size_t bytes_len);
     7   a length that the row does not permit               the length byte               the object's
     8   an object reaches past the template                 the object's tag              the object's
     9   a byte outside the rule's characters                first such                    the object's
-   10   lead, code, birth or expiry makes no sense          first value byte              the object's
+   10   lead, code, birth or expiry makes no sense, or      first value byte              the object's
+        the single D where it is not taken
    11   names, or country, postal code and town, too long   tag of the first present      that tag
    12   the template goes on behind the checksum            the byte behind it            0
    13   the checksum                                        its value byte                0

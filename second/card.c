@@ -103,7 +103,7 @@ static const struct row issue_rows[ROW_COUNT] = {
     {RANGE(2, 28), 1, RULE_TEXT},
     {ONE(8), 1, RULE_BIRTH},
     {RANGE(2, 28), 0, RULE_TEXT},
-    {RANGE(1, 3), 0, RULE_TEXT},
+    {RANGE(1, 3), 0, RULE_NOT_D},
     {RANGE(4, 7), 1, RULE_TEXT},
     {RANGE(2, 22), 1, RULE_TEXT},
     {ONE(4), 1, RULE_EXPIRY},
@@ -153,7 +153,7 @@ static void pack_row(const struct row *row, uint8_t *bytes)
 
 static int row_is_well_formed(const struct row *row, size_t index)
 {
-    if (row->required > 1 || row->rule > RULE_RAW)
+    if (row->required > 1 || row->rule > RULE_NOT_D)
         return 0;
     if (row->lengths == 0 || (row->lengths & ~RANGE(1, VALUE_MAX)) != 0)
         return 0;
@@ -204,7 +204,7 @@ static int length_is_permitted(const struct row *row, size_t length)
 /* The index of the first byte outside the rule's characters, or the length. */
 static size_t first_outside(unsigned rule, const uint8_t *value, size_t length)
 {
-    unsigned wanted = rule == RULE_TEXT || rule == RULE_CODE ? IS_TEXT : IS_DIGIT;
+    unsigned wanted = rule == RULE_TEXT || rule == RULE_CODE || rule == RULE_NOT_D ? IS_TEXT : IS_DIGIT;
     size_t i = 0;
 
     if (rule == RULE_RAW)
@@ -235,7 +235,7 @@ static int expiry_is_taken(const uint8_t *value)
 }
 
 /* For a value whose length and characters are right. */
-static int meaning_is_taken(unsigned rule, const uint8_t *value)
+static int meaning_is_taken(unsigned rule, const uint8_t *value, size_t length)
 {
     switch (rule) {
     case RULE_LEAD:
@@ -246,6 +246,8 @@ static int meaning_is_taken(unsigned rule, const uint8_t *value)
         return birth_is_taken(value);
     case RULE_EXPIRY:
         return expiry_is_taken(value);
+    case RULE_NOT_D:
+        return length != 1 || value[0] != 0x44;
     default:
         return 1;
     }
@@ -410,7 +412,7 @@ static uint64_t read_value(struct walk *walk, size_t row)
     outside = first_outside(rule_row->rule, walk->image + start, length);
     if (outside < length)
         return refusal(9, start + outside, second_tags[row]);
-    if (!meaning_is_taken(rule_row->rule, walk->image + start))
+    if (!meaning_is_taken(rule_row->rule, walk->image + start, length))
         return refusal(10, start, second_tags[row]);
     walk->start[row] = (uint8_t)start;
     walk->length[row] = (uint8_t)length;
@@ -549,7 +551,7 @@ static uint64_t check_slot(const struct row *row, unsigned tag, const uint8_t *s
     outside = first_outside(row->rule, slot + 1, length);
     if (outside < length)
         return refusal(9, outside, tag);
-    if (!meaning_is_taken(row->rule, slot + 1))
+    if (!meaning_is_taken(row->rule, slot + 1, length))
         return refusal(10, 0, tag);
     return 0;
 }

@@ -9,7 +9,7 @@
 
 #define BIT(n) (UINT32_C(1) << (n))
 
-enum { CAUSE_COUNT = 16 };
+enum { CAUSE_COUNT = 17 };
 
 /* Causes that any row can have. */
 static void spoil_any(struct rule_row *row, size_t cause)
@@ -19,7 +19,7 @@ static void spoil_any(struct rule_row *row, size_t cause)
     if (cause < 2)
         row->required = cause == 0 ? 2 : 255;
     else if (cause < 4)
-        row->rule = cause == 2 ? 7 : 255;
+        row->rule = cause == 2 ? 8 : 255;
     else if (cause == 4)
         row->lengths = 0;
     else if (cause < 9)
@@ -34,11 +34,11 @@ static const struct rule_row *own_cause(size_t row, size_t cause)
 {
     static const struct rule_row others[] = {
         {1, RULE_RAW, 2}, {0, RULE_BIRTH, BIT(8) | BIT(9)}, {0, RULE_BIRTH, BIT(7)},
-        {1, RULE_EXPIRY, BIT(4) | BIT(3)}, {0, RULE_EXPIRY, BIT(5)}
+        {1, RULE_EXPIRY, BIT(4) | BIT(3)}, {0, RULE_EXPIRY, BIT(5)}, {1, RULE_RAW, BIT(2)}
     };
     static const struct rule_row checksums[] = {
         {0, RULE_RAW, 2}, {1, RULE_RAW, BIT(1) | BIT(2)}, {1, RULE_RAW, BIT(2)}, {1, RULE_TEXT, 2},
-        {1, RULE_BIRTH, BIT(8)}
+        {1, RULE_BIRTH, BIT(8)}, {1, RULE_NOT_D, 2}
     };
 
     return row == ROW_8E ? &checksums[cause] : &others[cause];
@@ -133,9 +133,10 @@ static void edge_rows(void)
     static const struct rule_row rows[] = {
         {1, RULE_BIRTH, BIT(8)}, {0, RULE_EXPIRY, BIT(4)}, {1, RULE_TEXT, BIT(28)}, {0, RULE_DIGITS, BIT(1)},
         {1, RULE_LEAD, UINT32_C(0x1FFFFFFE)}, {0, RULE_CODE, BIT(3) | BIT(17)}, {1, RULE_LEAD, BIT(2) | BIT(28)},
-        {0, RULE_CODE, BIT(1) | BIT(28)}
+        {0, RULE_CODE, BIT(1) | BIT(28)}, {1, RULE_NOT_D, BIT(1)}, {0, RULE_NOT_D, BIT(1) | BIT(2)},
+        {1, RULE_NOT_D, BIT(28)}
     };
-    static const uint8_t lengths[] = {8, 4, 28, 1, 9, 17, 2, 1};
+    static const uint8_t lengths[] = {8, 4, 28, 1, 9, 17, 2, 1, 1, 2, 28};
     uint8_t record[RECORD_SIZE];
     struct edition edition;
     size_t row, i;
@@ -182,6 +183,29 @@ static void spoil_record(uint8_t *record, const uint8_t *table)
     }
 }
 
+/* Any row but 8E may take text other than the single D; there the row is wide in the lengths. */
+static void rows_without_d(void)
+{
+    static const struct rule_row not_d = {0, RULE_NOT_D, UINT32_C(0x1FFFFFFE)};
+    static const char *const values[] = {"D", "d", "DD", "D@", "@"};
+    uint8_t record[RECORD_SIZE];
+    struct edition edition;
+    size_t row, i;
+
+    for (row = 0; row < OBJECT_COUNT; row++) {
+        edition = copy_of(&wide);
+        row_to_table(edition.table, row, not_d);
+        for (i = 0; i < COUNT(values); i++) {
+            record_around(record, row);
+            set_text(record, row, values[i]);
+            if ((row + i) % 2 == 0)
+                emit_card(&edition, record);
+            else
+                emit_record(&edition, record);
+        }
+    }
+}
+
 static void random_editions(void)
 {
     uint8_t record[RECORD_SIZE];
@@ -207,5 +231,6 @@ void edition_cases(void)
     two_spoiled_rows();
     shipped_tables();
     edge_rows();
+    rows_without_d();
     random_editions();
 }

@@ -232,6 +232,47 @@ static void leads_and_codes(void)
     }
 }
 
+/* The single D, and what looks like it. */
+static void countries(void)
+{
+    static const char *const values[] = {
+        "D", "d", "DE", "D ", " D", "DD", "DDD", "A", "C", "E", "F", "1", "_", "@", "D@", "@D", "DEUT"
+    };
+    uint8_t record[RECORD_SIZE];
+    size_t i;
+
+    record_full(record);
+    for (i = 0; i < COUNT(values); i++) {
+        set_text(record, ROW_8A, values[i]);
+        emit_both(&terminal, record);
+        emit_both(&issue, record);
+    }
+}
+
+/* The D, and something earlier or later wrong too. */
+static void order_of_d(void)
+{
+    uint8_t record[RECORD_SIZE];
+    size_t i;
+
+    for (i = 0; i < 6; i++) {
+        record_full(record);
+        set_text(record, ROW_8A, "D");
+        if (i == 0)
+            set_text(record, ROW_89, "No street_@");
+        if (i == 1)
+            set_text(record, ROW_8B, "123456789");
+        if (i == 2)
+            set_text(record, ROW_8C, "A town of twenty-two c");
+        if (i == 3)
+            set_text(record, ROW_85, "A name of twenty-four ch");
+        if (i == 4)
+            set_absent(record, ROW_8D);
+        emit_both(turn(0), record);
+        emit_both(turn(1), record);
+    }
+}
+
 static void valid_cards(void)
 {
     uint8_t record[RECORD_SIZE];
@@ -256,5 +297,7 @@ void shared_cases(void)
     births();
     expiries();
     leads_and_codes();
+    countries();
+    order_of_d();
     valid_cards();
 }

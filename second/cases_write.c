@@ -176,6 +176,7 @@ static void every_byte(void)
     for (byte = 0; byte < 256; byte++) {
         emit_byte(turn(byte), ROW_81, byte % 7, byte);
         emit_byte(&issue, ROW_90, 0, byte);
+        emit_byte(&issue, ROW_8A, 0, byte);
         if (!is_near_an_edge(byte))
             continue;
         emit_byte(turn(byte), ROW_89, byte % 12, byte);

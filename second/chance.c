@@ -67,7 +67,7 @@ void chance_value(unsigned rule, uint8_t *value, size_t length)
     const char *digits = "0123456789";
     const char *text = "0123456789ABCDEFGHIJKLMNOPQRSTUVWXYZabcdefghijklmnopqrstuvwxyz"
                        "[\\]{|}~ &'()+-./_";
-    int is_text = rule == RULE_TEXT || rule == RULE_CODE;
+    int is_text = rule == RULE_TEXT || rule == RULE_CODE || rule == RULE_NOT_D;
     size_t month = chance(13);
     size_t i;
 
@@ -77,6 +77,8 @@ void chance_value(unsigned rule, uint8_t *value, size_t length)
         value[0] = one_of("135");
     if (rule == RULE_CODE)
         value[0] = one_of("194678MXACKLENDFSP");
+    if (rule == RULE_NOT_D && length == 1 && value[0] == 'D')
+        value[0] = one_of("CEd");
     if (rule == RULE_BIRTH && length >= 4) {
         two_digits(value, month == 0 ? 0 : chance(32));
         two_digits(value + 2, month);
@@ -220,12 +222,15 @@ static uint32_t random_lengths(void)
 void chance_table(uint8_t *table)
 {
     static const struct rule_row checksum = {1, RULE_RAW, 2};
+    static const uint8_t rules[] = {
+        RULE_DIGITS, RULE_TEXT, RULE_LEAD, RULE_CODE, RULE_BIRTH, RULE_EXPIRY, RULE_NOT_D
+    };
     size_t row;
 
     for (row = 0; row < OBJECT_COUNT; row++) {
         struct rule_row rule_row;
         rule_row.required = (uint8_t)chance(2);
-        rule_row.rule = (uint8_t)chance(6);
+        rule_row.rule = rules[chance(sizeof rules)];
         rule_row.lengths = random_lengths();
         if (rule_row.rule == RULE_BIRTH)
             rule_row.lengths = UINT32_C(1) << 8;

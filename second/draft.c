@@ -51,7 +51,7 @@ void record_full(uint8_t *record)
 {
     static const char *const values[OBJECT_COUNT] = {
         "AOK Musterstadt", "7654321", "09123", "100200300", "3000", "M", "Dr.", "Ute", "von",
-        "M}ller-L~d", "24121961", "Am Markt 1/2", "D", "12345", "Bad Ort", "0930"
+        "M}ller-L~d", "24121961", "Am Markt 1/2", "F", "12345", "Bad Ort", "0930"
     };
 
     set_all(record, values);

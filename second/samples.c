@@ -84,6 +84,15 @@ static void make_town_23(struct draft *draft)
     draft_card(draft, record);
 }
 
+static void make_country_d(struct draft *draft)
+{
+    uint8_t record[RECORD_SIZE];
+
+    record_full(record);
+    set_text(record, ROW_8A, "D");
+    draft_card(draft, record);
+}
+
 static void make_fixed_byte(struct draft *draft)
 {
     make_full(draft);
@@ -220,6 +229,7 @@ static const struct {
     {"both-longest", make_longest},
     {"terminal-without-optional", make_without_optional},
     {"terminal-town-of-23", make_town_23},
+    {"terminal-country-d", make_country_d},
     {"refused-03-fixed-byte", make_fixed_byte},
     {"refused-04-template-length", make_template},
     {"refused-05-tag-again", make_tag},

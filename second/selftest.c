@@ -194,6 +194,30 @@ static void test_dates(void)
     }
 }
 
+static void test_countries(void)
+{
+    static const struct { const char *value; unsigned number; } countries[] = {
+        {"D", 10}, {"d", 0}, {"D ", 0}, {"DE", 0}, {"DD", 0}, {"C", 0}, {"E", 0}, {"@", 9}, {"D@", 9}
+    };
+    uint8_t record[RECORD_SIZE];
+    struct draft draft;
+    size_t i;
+
+    for (i = 0; i < COUNT(countries); i++) {
+        record_full(record);
+        set_text(record, ROW_8A, countries[i].value);
+        CHECK((read_card(issue, record) & 0xFF) == countries[i].number);
+        CHECK((write_record(issue, record) & 0xFF) == countries[i].number);
+        CHECK((read_card(terminal, record) & 0xFF) == (countries[i].number == 9 ? 9 : 0));
+        CHECK((write_record(terminal, record) & 0xFF) == (countries[i].number == 9 ? 9 : 0));
+    }
+    record_full(record);
+    set_text(record, ROW_8A, "D");
+    draft_card(&draft, record);
+    CHECK(read_draft(issue, &draft) == told(10, (unsigned)draft.tag_at[ROW_8A] + 2, 0x8A));
+    CHECK(write_record(issue, record) == told(10, 0, 0x8A));
+}
+
 static void test_towns_and_last_bytes(void)
 {
     uint8_t record[RECORD_SIZE];
@@ -326,7 +350,7 @@ static void test_bad_rows(void)
         table[row * ROW_SIZE] = 2;
         CHECK(read_card(table, record) == told(2, 0, second_tags[row]));
         table[row * ROW_SIZE] = 1;
-        table[row * ROW_SIZE + 1] = 7;
+        table[row * ROW_SIZE + 1] = 8;
         CHECK(write_record(table, record) == told(2, 0, second_tags[row]));
         table[row * ROW_SIZE + 1] = RULE_RAW;
         CHECK((write_record(table, record) == 0) == (row == ROW_8E));
@@ -440,6 +464,7 @@ int main(int count, char **words)
     test_fillers();
     test_template_lengths();
     test_dates();
+    test_countries();
     test_towns_and_last_bytes();
     test_last_bytes_at_93();
     test_tails();

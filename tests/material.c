@@ -106,7 +106,7 @@ void damage_table(uint8_t *table)
         rule_row.required = (uint8_t)chance(chance(2) ? 3 : 256);
         break;
     case 1:
-        rule_row.rule = (uint8_t)chance(chance(4) ? 8 : 256);
+        rule_row.rule = (uint8_t)chance(chance(4) ? 9 : 256);
         break;
     case 2:
         rule_row.lengths ^= UINT32_C(1) << chance(32);
@@ -181,12 +181,22 @@ static void put_edge_sum(uint8_t *record, const uint8_t *table, size_t first)
     chance_fill(record, table, last, wanted);
 }
 
+/* The single D or a value beside it. */
+static void put_d(uint8_t *slot)
+{
+    static const char *const values[] = {"D", "D", "D", "d", "E", "DE", "D "};
+    const char *value = values[chance(COUNT(values))];
+
+    slot[0] = (uint8_t)strlen(value);
+    memcpy(slot + 1, value, slot[0]);
+}
+
 void damage_record(uint8_t *record, const uint8_t *table)
 {
     size_t row = chance(OBJECT_COUNT);
     uint8_t *slot = slot_of(record, row);
 
-    switch (chance(12)) {
+    switch (chance(13)) {
     case 0:
         slot[0] = (uint8_t)other_length(slot[0]);
         break;
@@ -215,6 +225,9 @@ void damage_record(uint8_t *record, const uint8_t *table)
         break;
     case 10:
         put_edge_date(slot_of(record, chance(2) ? ROW_88 : ROW_8D));
+        break;
+    case 11:
+        put_d(chance(2) ? slot : slot_of(record, ROW_8A));
         break;
     default:
         if (slot[0] < VALUE_MAX)

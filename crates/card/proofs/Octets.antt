@@ -8,7 +8,7 @@ use lib.ListN.{length, take, drop, getD, replicate}
 use lib.Dec.{leb, ltb, eqb, lit<, lit≤}
 use borrow.Author.Tests.{eqb-true, le-leb, leb-true, ltb-true, ne-eqb}
 use Rattle.rules.specs.declared.Rule.{Rule}
-use Rattle.rules.specs.declared.Rule.the-variants.{Digits, Text, Lead, Code, Birth, Expiry, Raw}
+use Rattle.rules.specs.declared.Rule.the-variants.{Digits, Text, Lead, Code, Birth, Expiry, Raw, NotD}
 use Rattle.edition.specs.declared.Row.{Row}
 use Rattle.edition.specs.declared.Edition.{Edition}
 use Rattle.edition.specs.declared.Formed.the-variants.{Well}
@@ -107,6 +107,7 @@ plain-below Code b f t = text-below b t
 plain-below Birth b f t = digit-below b t
 plain-below Expiry b f t = digit-below b t
 plain-below Raw b f t = absurd (true-false f refl)
+plain-below NotD b f t = text-below b t
 
 not-raw : (rule : Rule) (x y : Bool) → byRule rule true x y false ≡ true → byRule rule true true true false ≡ true
 not-raw Digits x y h = refl
@@ -116,6 +117,7 @@ not-raw Code x y h = refl
 not-raw Birth x y h = refl
 not-raw Expiry x y h = refl
 not-raw Raw x y h = h
+not-raw NotD x y h = refl
 
 value-octets : (r : Row) (v : List ℕ) → rowFormed false r ≡ true → judged (r .rule) v ≡ Takes → Octets v
 value-octets r v f t =

@@ -10,17 +10,18 @@ use lib.Pow.{pow-mono}
 use lib.Dec.{leb, eqb, ltb}
 use borrow.Author.Tests.{eqb-true, eqb-false, leb-true, leb-false, ltb-true}
 use Rattle.rules.specs.declared.Rule.{Rule}
+use Rattle.rules.specs.declared.Rule.the-variants.{Text, NotD}
 use Rattle.edition.specs.declared.Row.{Row}
 use Rattle.edition.specs.declared.Edition.{Edition}
 use Rattle.edition.specs.declared.Formed.the-variants.{Well}
 use Rattle.rules.specs.declared.values.Verdict.the-variants.{Takes}
 use Rattle.edition.specs.Sets.{permitted}
-use Rattle.rules.specs.Values.{isDigit, isText, byClass, takes, isLead, isCode, isBirth, isExpiry, two, bySense, holds, judged}
+use Rattle.rules.specs.Values.{isDigit, isText, byClass, takes, isLead, isCode, isBirth, isExpiry, isNotD, two, bySense, holds, judged}
 use Rattle.edition.specs.Rows.{setFormed, formedFrom}
 use Rattle.edition.specs.Tables.{terminal, issue}
 use Rattle.ground.proofs.Lists.{true-false, and-left, and-right, leading-wider}
 use Rattle.edition.proofs.Sets.{beyond}
-use Rattle.rules.proofs.Verdicts.{taken-means, means-taken}
+use Rattle.rules.proofs.Verdicts.{taken-means, means-taken, not-d-means}
 use Rattle.edition.proofs.Shipped.{terminal-formed, issue-formed}
 use Rattle.demands.specs.Nested.{Within, NestedRows, no-rows, one-row, Nested}
 use Rattle.edition.proofs.Rows.{formed-head}
@@ -71,11 +72,11 @@ characters i o text digit = implies (implies digit text) (implies (byClass i dig
 unfoldable pub charactersTest : Rule → Rule → Bool
 charactersTest i o = every (λ text. every (characters i o text))
 
-abbrev sense : Rule → Rule → Bool → Bool → Bool → Bool → Bool
-sense i o lead code birth expiry = implies (bySense i lead code birth expiry) (bySense o lead code birth expiry)
+abbrev sense : Rule → Rule → Bool → Bool → Bool → Bool → Bool → Bool
+sense i o lead code birth expiry notD = implies (bySense i lead code birth expiry notD) (bySense o lead code birth expiry notD)
 
 unfoldable pub senseTest : Rule → Rule → Bool
-senseTest i o = every (λ lead. every (λ code. every (λ birth. every (sense i o lead code birth))))
+senseTest i o = every (λ lead. every (λ code. every (λ birth. every (λ expiry. every (sense i o lead code birth expiry)))))
 
 abbrev pub wider : Rule → Rule → Bool
 wider i o = charactersTest i o && senseTest i o
@@ -95,14 +96,15 @@ wider-takes i o b h =
     every-at (characters i o (isText b)) (isDigit b) (every-at (λ t. every (characters i o t)) (isText b) h) in
     implied (takes i b) (takes o b) (implied (implies (isDigit b) (isText b)) (implies (takes i b) (takes o b)) at (digit-text b))
 
-sense-at : (i o : Rule) (a b c d : Bool) → senseTest i o ≡ true → bySense i a b c d ≡ true → bySense o a b c d ≡ true
+sense-at : (i o : Rule) (a b c d e : Bool) → senseTest i o ≡ true → bySense i a b c d e ≡ true → bySense o a b c d e ≡ true
 unfolding senseTest
-sense-at i o a b c d h =
-    implied (bySense i a b c d) (bySense o a b c d)
-    (every-at (sense i o a b c) d
-    (every-at (λ z. every (sense i o a b z)) c
-    (every-at (λ y. every (λ z. every (sense i o a y z))) b
-    (every-at (λ x. every (λ y. every (λ z. every (sense i o x y z)))) a h))))
+sense-at i o a b c d e h =
+    implied (bySense i a b c d e) (bySense o a b c d e)
+    (every-at (sense i o a b c d) e
+    (every-at (λ w. every (sense i o a b c w)) d
+    (every-at (λ z. every (λ w. every (sense i o a b z w))) c
+    (every-at (λ y. every (λ z. every (λ w. every (sense i o a y z w)))) b
+    (every-at (λ x. every (λ y. every (λ z. every (λ w. every (sense i o x y z w))))) a h)))))
 
 wider-holds : (i o : Rule) (v : List ℕ) → senseTest i o ≡ true → holds i v ≡ true → holds o v ≡ true
 unfolding holds
@@ -110,6 +112,7 @@ wider-holds i o v =
     sense-at i o (isLead (getD v 0 0)) (isCode (getD v 0 0))
     (isBirth (length v) (two (getD v 0 0) (getD v 1 0)) (two (getD v 2 0) (getD v 3 0)))
     (isExpiry (length v) (two (getD v 0 0) (getD v 1 0)))
+    (isNotD (length v) (getD v 0 0))
 
 wider-judged : (i o : Rule) (v : List ℕ) → wider i o ≡ true → judged i v ≡ Takes → judged o v ≡ Takes
 wider-judged i o v h t =
@@ -117,6 +120,10 @@ wider-judged i o v h t =
     means-taken o v
     (leading-wider (takes i) (takes o) v (λ b. wider-takes i o b (and-left (charactersTest i o) (senseTest i o) h)) (m .0))
     (wider-holds i o v (and-right (charactersTest i o) (senseTest i o) h) (m .1))
+
+-- text of lengths other than 1 is never the single letter D
+pub without-single : (i : Row) → permitted (i .lengths) 1 ≡ false → (v : List ℕ) → permitted (i .lengths) (length v) ≡ true → judged Text v ≡ Takes → judged NotD v ≡ Takes
+without-single i none v p t = not-d-means v .1 (t, λ e. true-false (rw e at p) none)
 
 -- ---- rows and editions
 unfoldable pub rowTest : Row → Row → Bool

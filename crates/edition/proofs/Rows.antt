@@ -12,7 +12,7 @@ use lib.Pow.{pow-mono}
 use lib.ListN.{length, getD, drop}
 use lib.Seq.{drop-cons, drop-length}
 use Rattle.rules.specs.declared.Rule.{Rule}
-use Rattle.rules.specs.declared.Rule.the-variants.{Digits, Text, Lead, Code, Birth, Expiry, Raw}
+use Rattle.rules.specs.declared.Rule.the-variants.{Digits, Text, Lead, Code, Birth, Expiry, Raw, NotD}
 use Rattle.edition.specs.declared.Row.{Row}
 use Rattle.edition.specs.declared.Formed.{Formed}
 use Rattle.edition.specs.declared.Formed.the-variants.{Well, Bad}
@@ -116,6 +116,7 @@ last-by Code b x r e = absurd (true-false e refl)
 last-by Birth b x r e = absurd (true-false e refl)
 last-by Expiry b x r e = absurd (true-false e refl)
 last-by Raw b x r e = (refl, e)
+last-by NotD b x r e = absurd (true-false e refl)
 
 pub record LastRow (r : Row) : Type 0 where
   pub required : r .required ≡ true

@@ -5,7 +5,7 @@ use mathlib.Core.List.{List, [], _∷_}
 use lib.Dec.{eqb, ltb}
 use lib.ListN.{getD}
 use Rattle.rules.specs.declared.Rule.{Rule}
-use Rattle.rules.specs.declared.Rule.the-variants.{Digits, Text, Lead, Code, Birth, Expiry, Raw}
+use Rattle.rules.specs.declared.Rule.the-variants.{Digits, Text, Lead, Code, Birth, Expiry, Raw, NotD}
 use Rattle.edition.specs.declared.Row.{Row}
 use Rattle.edition.specs.declared.Formed.{Formed}
 use Rattle.edition.specs.declared.Formed.the-variants.{Well, Bad}
@@ -35,6 +35,7 @@ byRule Code plain birth expiry raw = plain
 byRule Birth plain birth expiry raw = birth
 byRule Expiry plain birth expiry raw = expiry
 byRule Raw plain birth expiry raw = raw
+byRule NotD plain birth expiry raw = plain
 
 -- row 8E, the last, is required, {1}, raw, and no other row is raw; a birth row has {8}, an expiry row {4}
 abbrev pub rowFormed : Bool → Row → Bool

@@ -3,7 +3,7 @@ use Prim.Native.Nat.{ℕ, _+_}
 use mathlib.Core.Bool.{true, false}
 use mathlib.Core.List.{List, [], _∷_, map}
 use Rattle.rules.specs.declared.Rule.{Rule}
-use Rattle.rules.specs.declared.Rule.the-variants.{Digits, Text, Lead, Code, Birth, Expiry, Raw}
+use Rattle.rules.specs.declared.Rule.the-variants.{Digits, Text, Lead, Code, Birth, Expiry, Raw, NotD}
 use Rattle.edition.specs.declared.Row.{Row}
 use Rattle.edition.specs.declared.Edition.{Edition}
 use Rattle.edition.specs.Sets.{only, upTo}
@@ -39,7 +39,7 @@ table =
     ∷ both (required Text (upTo 2 28))
     ∷ both (required Birth (only 8))
     ∷ both (optional Text (upTo 2 28))
-    ∷ both (optional Text (upTo 1 3))
+    ∷ apart (optional Text (upTo 1 3)) (optional NotD (upTo 1 3))
     ∷ both (required Text (upTo 4 7))
     ∷ apart (required Text (upTo 2 23)) (required Text (upTo 2 22))
     ∷ apart (optional Expiry (only 4)) (required Expiry (only 4))

@@ -97,12 +97,6 @@ const STREET: Row = Row {
     lengths: FROM_2_TO_28,
 };
 
-const COUNTRY: Row = Row {
-    required: false,
-    rule: Rule::Text,
-    lengths: FROM_1_TO_3,
-};
-
 const POSTAL_CODE: Row = Row {
     required: true,
     rule: Rule::Text,
@@ -146,7 +140,11 @@ impl Edition {
             FAMILY_NAME,
             BIRTH_DATE,
             STREET,
-            COUNTRY,
+            Row {
+                required: false,
+                rule: Rule::Text,
+                lengths: FROM_1_TO_3,
+            },
             POSTAL_CODE,
             Row {
                 required: true,
@@ -192,7 +190,11 @@ impl Edition {
             FAMILY_NAME,
             BIRTH_DATE,
             STREET,
-            COUNTRY,
+            Row {
+                required: false,
+                rule: Rule::NotD,
+                lengths: FROM_1_TO_3,
+            },
             POSTAL_CODE,
             Row {
                 required: true,
@@ -248,6 +250,7 @@ fn by_rule(rule: Rule, plain: bool, birth: bool, expiry: bool, raw: bool) -> boo
         Rule::Birth => birth,
         Rule::Expiry => expiry,
         Rule::Raw => raw,
+        Rule::NotD => plain,
     }
 }
 

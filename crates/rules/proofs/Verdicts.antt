@@ -1,19 +1,20 @@
 -- What the verdicts mean. Assumes nothing.
 use Prim.Native.Nat.{ℕ, zero, suc, _≤_, _<_}
 use native.Mathlib.Omega.{arith}
-use borrow.Author.Tests.{ltb-true, ltb-false, le-ltb}
+use borrow.Author.Tests.{eqb-true, ne-eqb, ltb-true, ltb-false, le-ltb}
 use mathlib.Core.Path.{_≡_, refl, ap}
-use mathlib.Core.Bool.{Bool, true, false, cond}
-use mathlib.Core.List.{List}
-use lib.Dec.{ltb}
+use mathlib.Core.Logic.{_↔_}
+use mathlib.Core.Bool.{Bool, true, false, cond, not, _&&_}
+use mathlib.Core.List.{List, [], _∷_}
+use lib.Dec.{eqb, ltb}
 use lib.ListN.{length, getD}
 use Rattle.rules.specs.declared.Rule.{Rule}
 use Rattle.rules.specs.declared.values.Verdict.{Verdict}
 use Rattle.rules.specs.declared.values.Verdict.the-variants.{Takes, Outside, Breaks}
 use Rattle.ground.specs.Lists.{among, leading}
-use Rattle.rules.specs.declared.Rule.the-variants.{Digits, Text, Lead, Code, Birth, Expiry, Raw}
+use Rattle.rules.specs.declared.Rule.the-variants.{Digits, Text, Lead, Code, Birth, Expiry, Raw, NotD}
 use Rattle.rules.specs.Characters.{charactersOf, hasByte}
-use Rattle.rules.specs.Values.{isDigit, isText, takes, holds, judged, ToldVerdict, verdictTold, bySense}
+use Rattle.rules.specs.Values.{isDigit, isText, takes, isNotD, holds, judged, ToldVerdict, verdictTold, bySense}
 use Rattle.ground.proofs.Lists.{true-false, alike-below, leading-before, leading-at, leading-alike}
 
 -- no two verdicts are told alike
@@ -50,6 +51,7 @@ right-bits Code = text-bits
 right-bits Birth = digit-bits
 right-bits Expiry = digit-bits
 right-bits Raw = any-bits
+right-bits NotD = text-bits
 
 pub leading-bits : (rule : Rule) (v : List ℕ) → ((k : ℕ) → k < length v → getD v k 0 < 256) → leading (hasByte (charactersOf rule)) v ≡ leading (takes rule) v
 leading-bits rule v h = leading-alike (hasByte (charactersOf rule)) (takes rule) 0 v (λ k l. right-bits rule (getD v k 0) (h k l))
@@ -118,7 +120,7 @@ unfolding judged
 means-taken rule v a b = rw (le-ltb (leading (takes rule) v) (length v) a, b)
 
 -- a rule that asks for nothing beyond its characters holds of every value
-pub plain-holds : (rule : Rule) (v : List ℕ) → bySense rule false false false false ≡ true → holds rule v ≡ true
+pub plain-holds : (rule : Rule) (v : List ℕ) → bySense rule false false false false false ≡ true → holds rule v ≡ true
 unfolding holds
 plain-holds Digits v h = refl
 plain-holds Text v h = refl
@@ -127,3 +129,23 @@ plain-holds Code v h = absurd (true-false h refl)
 plain-holds Birth v h = absurd (true-false h refl)
 plain-holds Expiry v h = absurd (true-false h refl)
 plain-holds Raw v h = refl
+plain-holds NotD v h = absurd (true-false h refl)
+
+-- text other than the single letter D is what its name says
+other-than-d : (v : List ℕ) → (v ≡ 0x44 ∷ [] → ⊥) → isNotD (length v) (getD v 0 0) ≡ true
+other-than-d [] h = refl
+other-than-d (b ∷ []) h = go (eqb b 0x44) refl
+  where
+    go : (q : Bool) → eqb b 0x44 ≡ q → not (eqb 1 1 && q) ≡ true
+    go true e = absurd (h (ap (λ (x : ℕ). x ∷ []) (eqb-true b 0x44 e)))
+    go false e = refl
+other-than-d (b ∷ c ∷ v) h = rw (ne-eqb (length (b ∷ c ∷ v)) 1 (λ e. absurd (omega arith)))
+
+pub not-d-means : (v : List ℕ) → judged NotD v ≡ Takes ↔ ((judged Text v ≡ Takes) × (v ≡ 0x44 ∷ [] → ⊥))
+unfolding holds
+not-d-means v = (
+  λ t. let m = taken-means NotD v t in
+      (means-taken Text v (m .0) refl, λ e. true-false (m .1) (rw e)),
+  λ p. let m = taken-means Text v (p .0) in
+      means-taken NotD v (m .0) (other-than-d v (p .1)),
+)

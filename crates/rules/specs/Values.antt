@@ -5,7 +5,7 @@ use mathlib.Core.List.{List, [], _∷_}
 use lib.Dec.{eqb, leb, ltb}
 use lib.ListN.{length, getD}
 use Rattle.rules.specs.declared.Rule.{Rule}
-use Rattle.rules.specs.declared.Rule.the-variants.{Digits, Text, Lead, Code, Birth, Expiry, Raw}
+use Rattle.rules.specs.declared.Rule.the-variants.{Digits, Text, Lead, Code, Birth, Expiry, Raw, NotD}
 use Rattle.rules.specs.declared.values.Verdict.{Verdict}
 use Rattle.rules.specs.declared.values.Verdict.the-variants.{Takes, Outside, Breaks}
 use Rattle.ground.specs.Lists.{among, leading}
@@ -33,6 +33,7 @@ byClass Code digit text any = text
 byClass Birth digit text any = digit
 byClass Expiry digit text any = digit
 byClass Raw digit text any = any
+byClass NotD digit text any = text
 
 abbrev pub takes : Rule → ℕ → Bool
 takes rule b = byClass rule (isDigit b) (isText b) true
@@ -60,21 +61,27 @@ isBirth n day month = eqb n 8 && leb month 12 && leb day 31 && (not (eqb month 0
 abbrev pub isExpiry : ℕ → ℕ → Bool
 isExpiry n month = eqb n 4 && leb 1 month && leb month 12
 
+-- NotD: other than the single letter D
+abbrev pub isNotD : ℕ → ℕ → Bool
+isNotD n first = not (eqb n 1 && eqb first 0x44)
+
 -- what a rule asks beyond its characters
-abbrev pub bySense : Rule → Bool → Bool → Bool → Bool → Bool
-bySense Digits lead code birth expiry = true
-bySense Text lead code birth expiry = true
-bySense Lead lead code birth expiry = lead
-bySense Code lead code birth expiry = code
-bySense Birth lead code birth expiry = birth
-bySense Expiry lead code birth expiry = expiry
-bySense Raw lead code birth expiry = true
+abbrev pub bySense : Rule → Bool → Bool → Bool → Bool → Bool → Bool
+bySense Digits lead code birth expiry other = true
+bySense Text lead code birth expiry other = true
+bySense Lead lead code birth expiry other = lead
+bySense Code lead code birth expiry other = code
+bySense Birth lead code birth expiry other = birth
+bySense Expiry lead code birth expiry other = expiry
+bySense Raw lead code birth expiry other = true
+bySense NotD lead code birth expiry other = other
 
 unfoldable pub holds : Rule → List ℕ → Bool
 holds rule v =
     bySense rule (isLead (getD v 0 0)) (isCode (getD v 0 0))
     (isBirth (length v) (two (getD v 0 0) (getD v 1 0)) (two (getD v 2 0) (getD v 3 0)))
     (isExpiry (length v) (two (getD v 0 0) (getD v 1 0)))
+    (isNotD (length v) (getD v 0 0))
 
 -- a byte outside the rule's characters is told before all else
 unfoldable pub judged : Rule → List ℕ → Verdict

@@ -14,4 +14,6 @@ pub enum Rule {
     Birth,
     Expiry,
     Raw,
+    // Text other than the single letter D.
+    NotD,
 }

@@ -4,14 +4,14 @@ ghost use mathlib.Core.Path.{_≡_};
 ghost use mathlib.Core.Bool.{false};
 ghost use Rattle.ground.specs.Lists.{leading};
 ghost use Rattle.rules.specs.Characters.{charactersOf, hasByte};
-ghost use Rattle.rules.specs.Values.{byClass, takes, isLead, isCode, two, isBirth, isExpiry, bySense, holds, judged, verdictTold};
+ghost use Rattle.rules.specs.Values.{byClass, takes, isLead, isCode, two, isBirth, isExpiry, isNotD, bySense, holds, judged, verdictTold};
 
 // How a value stands to its rule.
 pub enum Verdict {
     Takes,
     // The index of the first byte outside the rule's characters.
     Outside(usize),
-    // The characters are right; the lead, the code, the birth or the expiry is not.
+    // The characters are right; the lead, the code, the birth or the expiry is not, or the value is the single D that its rule leaves out.
     Breaks,
 }
 
@@ -51,6 +51,7 @@ fn by_class(rule: Rule, digits: Characters, text: Characters, any: Characters) -
         Rule::Birth => digits,
         Rule::Expiry => digits,
         Rule::Raw => any,
+        Rule::NotD => text,
     }
 }
 
@@ -124,9 +125,15 @@ fn is_expiry(length: usize, month: u32) -> bool
     (length == 4) & (month >= 1) & (month <= 12)
 }
 
-// What a rule asks beyond its characters, of a value that is a lead, a code, a birth date, an expiry or not.
-fn by_sense(rule: Rule, lead: bool, code: bool, birth: bool, expiry: bool) -> bool
-    ensures { λ r. ⌜ r ≡ bySense rule lead code birth expiry ⌝ }
+fn is_not_d(length: usize, first: u8) -> bool
+    ensures { λ r. ⌜ r ≡ isNotD length first ⌝ }
+{
+    !((length == 1) & (first == b'D'))
+}
+
+// What a rule asks beyond its characters, of a value that is a lead, a code, a birth date, an expiry, other than D or not.
+fn by_sense(rule: Rule, lead: bool, code: bool, birth: bool, expiry: bool, other: bool) -> bool
+    ensures { λ r. ⌜ r ≡ bySense rule lead code birth expiry other ⌝ }
 {
     match rule {
         Rule::Digits => true,
@@ -136,14 +143,15 @@ fn by_sense(rule: Rule, lead: bool, code: bool, birth: bool, expiry: bool) -> bo
         Rule::Birth => birth,
         Rule::Expiry => expiry,
         Rule::Raw => true,
+        Rule::NotD => other,
     }
 }
 
 // Whether a rule asks for nothing beyond its characters.
 fn is_plain(rule: Rule) -> bool
-    ensures { λ r. ⌜ r ≡ bySense rule false false false false ⌝ }
+    ensures { λ r. ⌜ r ≡ bySense rule false false false false false ⌝ }
 {
-    by_sense(rule, false, false, false, false)
+    by_sense(rule, false, false, false, false, false)
 }
 
 fn holds_for(rule: Rule, v: &[u8]) -> bool
@@ -158,6 +166,7 @@ fn holds_for(rule: Rule, v: &[u8]) -> bool
         is_code(first),
         is_birth(v.len(), leading, next),
         is_expiry(v.len(), leading),
+        is_not_d(v.len(), first),
     )
 }
 

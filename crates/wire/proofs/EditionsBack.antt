@@ -7,7 +7,7 @@ use mathlib.Core.List.{List, [], _∷_}
 use lib.Dec.{eqb, leb}
 use lib.ListN.{length}
 use Rattle.rules.specs.declared.Rule.{Rule}
-use Rattle.rules.specs.declared.Rule.the-variants.{Digits, Text, Lead, Code, Birth, Expiry, Raw}
+use Rattle.rules.specs.declared.Rule.the-variants.{Digits, Text, Lead, Code, Birth, Expiry, Raw, NotD}
 use Rattle.edition.specs.declared.Row.{Row}
 use Rattle.edition.specs.declared.Edition.{Edition}
 use Rattle.ground.specs.Pieces.{fourBytes}
@@ -21,7 +21,7 @@ required-back : (b : Bool) → (eqb (cond b 1 0) 1 ≡ b) × (leb (cond b 1 0) 1
 required-back true = (refl, refl)
 required-back false = (refl, refl)
 
-rule-back : (rule : Rule) → (ruleOf (numberOf rule) ≡ rule) × (leb (numberOf rule) 6 ≡ true)
+rule-back : (rule : Rule) → (ruleOf (numberOf rule) ≡ rule) × (leb (numberOf rule) 7 ≡ true)
 rule-back Digits = (refl, refl)
 rule-back Text = (refl, refl)
 rule-back Lead = (refl, refl)
@@ -29,6 +29,7 @@ rule-back Code = (refl, refl)
 rule-back Birth = (refl, refl)
 rule-back Expiry = (refl, refl)
 rule-back Raw = (refl, refl)
+rule-back NotD = (refl, refl)
 
 row-back : (r : Row) → rowFrom (rowBytes r) ≡ r
 unfolding rowFrom rowBytes

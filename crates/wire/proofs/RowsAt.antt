@@ -20,7 +20,7 @@ first-at bs at = byte-at bs at 0 (omega arith) ∙ ap (λ (x : ℕ). getD bs x 0
 pub row-at : (bs : List ℕ) (at : ℕ) → record {
   required = eqb (getD bs at 0) 1;
   rule = ruleOf (getD bs (at + 1) 0);
-  lengths = cond (leb (getD bs at 0) 1 && leb (getD bs (at + 1) 0) 6) (fourBytes (getD bs (at + 2) 0) (getD bs (at + 3) 0) (getD bs (at + 4) 0) (getD bs (at + 5) 0)) 0;
+  lengths = cond (leb (getD bs at 0) 1 && leb (getD bs (at + 1) 0) 7) (fourBytes (getD bs (at + 2) 0) (getD bs (at + 3) 0) (getD bs (at + 4) 0) (getD bs (at + 5) 0)) 0;
 } ≡ rowFrom (take 6 (drop at bs))
 unfolding rowFrom
 row-at bs at =

@@ -1,17 +1,17 @@
--- A table is 102 bytes: for each row required (0 or 1), rule (0 to 6), and the lengths in four bytes, high first.
+-- A table is 102 bytes: for each row required (0 or 1), rule (0 to 7), and the lengths in four bytes, high first.
 use Prim.Native.Nat.{ℕ, _/_, _%_, _^_}
 use mathlib.Core.Bool.{cond, _&&_}
 use mathlib.Core.List.{List, [], _∷_, map}
 use lib.Dec.{eqb, leb}
 use lib.ListN.{length, getD, replicate}
 use Rattle.rules.specs.declared.Rule.{Rule}
-use Rattle.rules.specs.declared.Rule.the-variants.{Digits, Text, Lead, Code, Birth, Expiry, Raw}
+use Rattle.rules.specs.declared.Rule.the-variants.{Digits, Text, Lead, Code, Birth, Expiry, Raw, NotD}
 use Rattle.edition.specs.declared.Row.{Row}
 use Rattle.edition.specs.declared.Edition.{Edition}
 use Rattle.edition.specs.Rows.{noRow}
 use Rattle.ground.specs.Pieces.{fourBytes, pieces, joined}
 
--- 0 digits, 1 text, 2 lead, 3 code, 4 birth, 5 expiry, 6 raw
+-- 0 digits, 1 text, 2 lead, 3 code, 4 birth, 5 expiry, 6 raw, 7 text other than the single letter D
 abbrev pub numberOf : Rule → ℕ
 numberOf Digits = 0
 numberOf Text = 1
@@ -20,20 +20,21 @@ numberOf Code = 3
 numberOf Birth = 4
 numberOf Expiry = 5
 numberOf Raw = 6
+numberOf NotD = 7
 
--- the rules before raw, by their numbers
+-- the rules before the last, by their numbers
 abbrev pub rules : List Rule
-rules = Digits ∷ Text ∷ Lead ∷ Code ∷ Birth ∷ Expiry ∷ []
+rules = Digits ∷ Text ∷ Lead ∷ Code ∷ Birth ∷ Expiry ∷ Raw ∷ []
 
 abbrev pub ruleOf : ℕ → Rule
-ruleOf n = getD rules n Raw
+ruleOf n = getD rules n NotD
 
 -- a row of six bytes; one with another byte in its first two is not well formed: its set is empty
 unfoldable pub rowFrom : List ℕ → Row
 rowFrom bs = record {
   required = eqb (getD bs 0 0) 1;
   rule = ruleOf (getD bs 1 0);
-  lengths = cond (leb (getD bs 0 0) 1 && leb (getD bs 1 0) 6) (fourBytes (getD bs 2 0) (getD bs 3 0) (getD bs 4 0) (getD bs 5 0)) 0;
+  lengths = cond (leb (getD bs 0 0) 1 && leb (getD bs 1 0) 7) (fourBytes (getD bs 2 0) (getD bs 3 0) (getD bs 4 0) (getD bs 5 0)) 0;
 }
 
 unfoldable pub editionFrom : List ℕ → Edition

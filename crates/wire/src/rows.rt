@@ -22,12 +22,16 @@ fn number_of(rule: Rule) -> u8
         Rule::Birth => 4,
         Rule::Expiry => 5,
         Rule::Raw => 6,
+        Rule::NotD => 7,
     }
 }
 
 fn rule_of(number: u8) -> Rule
     ensures { λ r. ⌜ r ≡ ruleOf number ⌝ }
 {
+    if number > 6 {
+        return Rule::NotD;
+    }
     match number {
         0 => Rule::Digits,
         1 => Rule::Text,
@@ -47,9 +51,9 @@ fn four_bytes(a: u8, b: u8, c: u8, d: u8) -> u32
 
 // The set of a row; empty where one of the row's first two bytes is no number of the format.
 fn lengths_of(required: u8, rule: u8, lengths: u32) -> u32
-    ensures { λ r. ⌜ r ≡ cond (leb required 1 && leb rule 6) lengths 0 ⌝ }
+    ensures { λ r. ⌜ r ≡ cond (leb required 1 && leb rule 7) lengths 0 ⌝ }
 {
-    if (required <= 1) & (rule <= 6) {
+    if (required <= 1) & (rule <= 7) {
         lengths
     } else {
         0

@@ -34,6 +34,9 @@ is-birth-requires c κs = search needs
 is-expiry-requires : tie.Need-is-expiry-requires
 is-expiry-requires c κs = search needs
 
+is-not-d-requires : tie.Need-is-not-d-requires
+is-not-d-requires c κs = search needs
+
 by-sense-requires : tie.Need-by-sense-requires
 by-sense-requires c κs = search needs
 
@@ -42,16 +45,17 @@ unfolding holds
 returns c =
     rw (
       c .by-sense .ensures,
-      c .before .is-expiry .ensures,
-      c .before .before .is-birth .ensures,
-      c .before .before .before .is-code .ensures,
-      c .before .before .before .before .is-lead .ensures,
-      c .before .before .before .before .before .two-of2 .ensures,
-      c .before .before .before .before .before .before .byte-at4 .ensures,
-      c .before .before .before .before .before .before .before .byte-at3 .ensures,
-      c .before .before .before .before .before .before .before .before .two-of .ensures,
-      c .before .before .before .before .before .before .before .before .before .byte-at2 .ensures,
-      c .before .before .before .before .before .before .before .before .before .before .byte-at .ensures,
+      c .before .is-not-d .ensures,
+      c .before .before .is-expiry .ensures,
+      c .before .before .before .is-birth .ensures,
+      c .before .before .before .before .is-code .ensures,
+      c .before .before .before .before .before .is-lead .ensures,
+      c .before .before .before .before .before .before .two-of2 .ensures,
+      c .before .before .before .before .before .before .before .byte-at4 .ensures,
+      c .before .before .before .before .before .before .before .before .byte-at3 .ensures,
+      c .before .before .before .before .before .before .before .before .before .two-of .ensures,
+      c .before .before .before .before .before .before .before .before .before .before .byte-at2 .ensures,
+      c .before .before .before .before .before .before .before .before .before .before .before .byte-at .ensures,
     )
 
 pub holds-for-spec : {M : Type 1} → statement M
@@ -68,5 +72,6 @@ holds-for-spec =
     is-code-requires
     is-birth-requires
     is-expiry-requires
+    is-not-d-requires
     by-sense-requires
     returns)
