@@ -15,26 +15,28 @@ extern "C" {
 
 enum {
     KVK_IMAGE_SIZE = 256,
-    KVK_TABLE_SIZE = 102,
-    KVK_RECORD_SIZE = 478
+    KVK_TABLE_SIZE = 103,
+    KVK_RECORD_SIZE = 479
 };
 
-/* A record: address 0, the free addresses, the last byte and sixteen slots in the order
-   80 81 8F 82 83 90 84 85 86 87 88 89 8A 8B 8C 8D. A slot is a length, 0 for absent, and
-   28 bytes. Reading sets what lies behind a value to 0, writing does not look at it. */
+/* A record: address 0, the free addresses, the last byte, sixteen slots in the order
+   80 81 8F 82 83 90 84 85 86 87 88 89 8A 8B 8C 8D, and the number of the edition that read
+   it. A slot is a length, 0 for absent, and 28 bytes. Reading sets what lies behind a value
+   to 0, writing does not look at it. */
 enum {
     KVK_FIRST = 0,
     KVK_FREE = 1,        /* addresses 6 to 16, then 29 */
     KVK_LAST = 13,       /* address 255 */
     KVK_SLOTS = 14,
     KVK_SLOT_COUNT = 16,
-    KVK_SLOT_SIZE = 29
+    KVK_SLOT_SIZE = 29,
+    KVK_NUMBER = 478
 };
 
 /* An edition is a table of seventeen rows, the sixteen above and then 8E. A row is required
    (0 or 1), the value rule, and the permitted lengths in four bytes, high byte first, bit n
-   for length n. */
-enum { KVK_ROW_COUNT = 17, KVK_ROW_SIZE = 6 };
+   for length n. Behind the rows stands the edition's number, 1 to 255: terminal 1, issue 2. */
+enum { KVK_ROW_COUNT = 17, KVK_ROW_SIZE = 6, KVK_TABLE_NUMBER = 102 };
 
 enum {
     KVK_DIGITS, KVK_TEXT, KVK_LEAD, KVK_CODE, KVK_BIRTH, KVK_EXPIRY, KVK_RAW,
@@ -48,13 +50,19 @@ uint64_t kvk_read(const uint8_t *edition, size_t edition_len,
                   const uint8_t *image, size_t image_len,
                   uint8_t *record, size_t record_len);
 
-/* Answers 0 if the image was written. A refusal leaves it unchanged. */
+/* Answers 0 if the image was written; record and edition have the same number then. A
+   refusal leaves the image unchanged. */
 uint64_t kvk_write(const uint8_t *edition, size_t edition_len,
                    const uint8_t *record, size_t record_len,
                    uint8_t *image, size_t image_len);
 
+/* Puts the edition's number on the record, if the edition would write it but for the number;
+   otherwise answers writing's refusal and leaves the record as it came. */
+uint64_t kvk_renumber(const uint8_t *edition, size_t edition_len,
+                      uint8_t *record, size_t record_len);
+
 /* Fills the room with the table of KVK_TERMINAL or KVK_ISSUE, or leaves it unchanged and
-   answers 20 (the room is not 102 bytes) or 2 (no such edition). */
+   answers 20 (the room is not 103 bytes) or 2 (no such edition). */
 uint64_t kvk_edition(uint64_t which, uint8_t *room, size_t room_len);
 
 /* Reads a length field: one byte up to 127, '81' and one byte from 128, '82' and two bytes from 256 on; what lies
@@ -67,7 +75,8 @@ uint64_t kvk_length(const uint8_t *bytes, size_t bytes_len);
    No.  What is refused                                     Place when reading            Tag
     0   nothing                                             0                             0
     1   the image has not 256 bytes                         0                             0
-    2   the edition is not well formed                      0                             first bad row's
+    2   the edition is not well formed: a row, or, if all   0                             first bad row's, or 0
+        rows are right, the number 0
     3   a fixed byte in 0 to 28; when writing, address 0    first such                    0
         or the last byte
     4   the template's tag, length form or length           30, 31 or 32                  0
@@ -86,11 +95,12 @@ uint64_t kvk_length(const uint8_t *bytes, size_t bytes_len);
    16   a byte of the filler's value                        first wrong address           0
    17   the byte or bytes behind the filler                 first wrong address           0
    20   a record, or a room to be filled, has not its size  0                             0
+   22   record and edition have different numbers           0                             0
    70   a length field has another first byte               0                             0
    71   a length field is cut short, or not there           0                             0
    72   a length field is longer than needed                0                             0
 
-   When writing the place is 0, but with 9 the index within the value. 18 and 19 are not in use.
+   When writing the place is 0, but with 9 the index within the value. 18, 19 and 21 are not in use.
 
    80 fund name        82 insured number    84 title          88 birth date     8C town
    81 fund number      83 status            85 given name     89 street         8D validity

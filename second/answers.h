@@ -6,6 +6,7 @@
 
 uint64_t answer_read(const struct test_case *test_case, FILE *out);
 uint64_t answer_write(const struct test_case *test_case, FILE *out);
+uint64_t answer_renumber(const struct test_case *test_case, FILE *out);
 uint64_t answer_length(const struct test_case *test_case, FILE *out);
 
 #endif

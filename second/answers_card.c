@@ -33,6 +33,7 @@ uint64_t answer_read(const struct test_case *test_case, FILE *out)
     if (answer == 0) {
         putc(' ', out);
         print_record(out, record);
+        fprintf(out, " %u", (unsigned)record[RECORD_NUMBER]);
     }
     return answer;
 }
@@ -48,5 +49,21 @@ uint64_t answer_write(const struct test_case *test_case, FILE *out)
     print_answer(out, answer);
     putc(' ', out);
     print_room(out, buffer, length, test_case->fill);
+    return answer;
+}
+
+uint64_t answer_renumber(const struct test_case *test_case, FILE *out)
+{
+    uint8_t record[RECORD_SIZE];
+    unsigned changed = 0;
+    uint64_t answer;
+    size_t i;
+
+    memcpy(record, test_case->record, RECORD_SIZE);
+    answer = second_renumber(test_case->editions[0].table, TABLE_SIZE, record, RECORD_SIZE);
+    for (i = 0; i < RECORD_NUMBER; i++)
+        changed += record[i] != test_case->record[i];
+    print_answer(out, answer);
+    fprintf(out, " %u %u", (unsigned)record[RECORD_NUMBER], changed);
     return answer;
 }

@@ -177,7 +177,7 @@ static uint64_t load_edition(const uint8_t *edition, size_t edition_len, struct 
         if (!row_is_well_formed(&rows[i], i))
             return refusal(2, 0, second_tags[i]);
     }
-    return 0;
+    return edition[TABLE_NUMBER] == 0 ? refusal(2, 0, 0) : 0;
 }
 
 uint64_t second_edition(uint64_t which, uint8_t *room, size_t room_len)
@@ -191,6 +191,7 @@ uint64_t second_edition(uint64_t which, uint8_t *room, size_t room_len)
         return refusal(2, 0, 0);
     for (i = 0; i < ROW_COUNT; i++)
         pack_row(&rows[i], room + i * ROW_SIZE);
+    room[TABLE_NUMBER] = (uint8_t)which;
     return 0;
 }
 
@@ -532,8 +533,10 @@ uint64_t second_read(const uint8_t *edition, size_t edition_len,
         answer = check_checksum(image, walk.start[ROW_8E]);
     if (answer == 0)
         answer = check_filler(image, walk.end);
-    if (answer == 0)
+    if (answer == 0) {
         fill_record(&walk, record);
+        record[RECORD_NUMBER] = edition[TABLE_NUMBER];
+    }
     return answer;
 }
 
@@ -578,6 +581,15 @@ static uint64_t check_objects(const struct row *rows, const uint8_t *record, siz
         return refusal(4, 0, 0);
     *template_length = total;
     return 0;
+}
+
+/* What a writing refuses behind 22. */
+static uint64_t check_record(const struct row *rows, const uint8_t *record, size_t *template_length)
+{
+    if (!address_0_is_allowed(record[0])
+        || !last_byte_is_allowed(record[0], record[RECORD_LAST]))
+        return refusal(3, 0, 0);
+    return check_objects(rows, record, template_length);
 }
 
 static void write_head(const uint8_t *record, uint8_t *image)
@@ -636,13 +648,29 @@ uint64_t second_write(const uint8_t *edition, size_t edition_len,
     answer = load_edition(edition, edition_len, rows);
     if (answer != 0)
         return answer;
-    if (!address_0_is_allowed(record[0])
-        || !last_byte_is_allowed(record[0], record[RECORD_LAST]))
-        return refusal(3, 0, 0);
-    answer = check_objects(rows, record, &template_length);
+    if (record[RECORD_NUMBER] != edition[TABLE_NUMBER])
+        return refusal(22, 0, 0);
+    answer = check_record(rows, record, &template_length);
     if (answer != 0)
         return answer;
     write_head(record, image);
     write_filler(write_template(record, template_length, image), record[RECORD_LAST], image);
     return 0;
+}
+
+uint64_t second_renumber(const uint8_t *edition, size_t edition_len,
+                         uint8_t *record, size_t record_len)
+{
+    struct row rows[ROW_COUNT];
+    size_t template_length = 0;
+    uint64_t answer;
+
+    if (record_len != RECORD_SIZE)
+        return refusal(20, 0, 0);
+    answer = load_edition(edition, edition_len, rows);
+    if (answer == 0)
+        answer = check_record(rows, record, &template_length);
+    if (answer == 0)
+        record[RECORD_NUMBER] = edition[TABLE_NUMBER];
+    return answer;
 }

@@ -10,7 +10,8 @@ enum {
     IMAGE_SIZE = 256,
     ROW_COUNT = 17,
     ROW_SIZE = 6,
-    TABLE_SIZE = ROW_COUNT * ROW_SIZE,
+    TABLE_NUMBER = ROW_COUNT * ROW_SIZE,
+    TABLE_SIZE = TABLE_NUMBER + 1,
     OBJECT_COUNT = 16,
     VALUE_MAX = 28,
     SLOT_SIZE = 1 + VALUE_MAX,
@@ -18,7 +19,8 @@ enum {
     RECORD_FREE = 1,
     RECORD_LAST = RECORD_FREE + FREE_COUNT,
     RECORD_SLOTS = RECORD_LAST + 1,
-    RECORD_SIZE = RECORD_SLOTS + OBJECT_COUNT * SLOT_SIZE
+    RECORD_NUMBER = RECORD_SLOTS + OBJECT_COUNT * SLOT_SIZE,
+    RECORD_SIZE = RECORD_NUMBER + 1
 };
 
 enum { EDITION_TERMINAL = 1, EDITION_ISSUE = 2 };
@@ -43,6 +45,10 @@ uint64_t second_read(const uint8_t *edition, size_t edition_len,
 uint64_t second_write(const uint8_t *edition, size_t edition_len,
                       const uint8_t *record, size_t record_len,
                       uint8_t *image, size_t image_len);
+
+/* Puts the edition's number on the record, if the edition would write it but for the number. */
+uint64_t second_renumber(const uint8_t *edition, size_t edition_len,
+                         uint8_t *record, size_t record_len);
 
 /* Fills a table: 1 terminal, 2 issue. */
 uint64_t second_edition(uint64_t which, uint8_t *room, size_t room_len);

@@ -69,7 +69,7 @@ static int get_record(FILE *in, uint8_t *record)
         if (!get_slot(in, record + RECORD_SLOTS + i * SLOT_SIZE))
             return 0;
     }
-    return 1;
+    return get_bytes(in, record + RECORD_NUMBER, 1);
 }
 
 static int get_edition(FILE *in, struct edition *edition)
@@ -145,6 +145,7 @@ static void put_record(FILE *out, const uint8_t *record)
         if (count < VALUE_MAX)
             putc(slot[VALUE_MAX], out);
     }
+    putc(record[RECORD_NUMBER], out);
 }
 
 static void put_edition(FILE *out, const struct edition *edition)

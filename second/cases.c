@@ -48,7 +48,7 @@ void emit_draft(const struct edition *edition, const struct draft *draft)
     emit_image(edition, draft->image, IMAGE_SIZE);
 }
 
-void emit_write(const struct edition *edition, const uint8_t *record, size_t buffer_length)
+void emit_as_numbered(const struct edition *edition, const uint8_t *record, size_t buffer_length)
 {
     struct test_case *test_case = new_case('W');
 
@@ -57,6 +57,15 @@ void emit_write(const struct edition *edition, const uint8_t *record, size_t buf
     test_case->numbers[0] = buffer_length;
     test_case->fill = chance_room_byte();
     put_case(stdout, test_case);
+}
+
+void emit_write(const struct edition *edition, const uint8_t *record, size_t buffer_length)
+{
+    uint8_t numbered[RECORD_SIZE];
+
+    memcpy(numbered, record, RECORD_SIZE);
+    put_number(numbered, edition->table);
+    emit_as_numbered(edition, numbered, buffer_length);
 }
 
 void emit_record(const struct edition *edition, const uint8_t *record)
@@ -115,6 +124,7 @@ static void set_up_editions(void)
     for (row = 0; row < OBJECT_COUNT; row++)
         row_to_table(wide.table, row, any_text);
     row_to_table(wide.table, ROW_8E, checksum);
+    wide.table[TABLE_NUMBER] = 255;
 }
 
 void write_corpus(uint64_t seed)
@@ -126,4 +136,5 @@ void write_corpus(uint64_t seed)
     shared_cases();
     edition_cases();
     length_cases();
+    number_cases();
 }

@@ -19,7 +19,10 @@ uint8_t chance_room_byte(void);
 
 void emit_image(const struct edition *edition, const uint8_t *image, size_t length);
 void emit_draft(const struct edition *edition, const struct draft *draft);
+/* With the edition's number on the record. */
 void emit_write(const struct edition *edition, const uint8_t *record, size_t buffer_length);
+/* With the number that it has. */
+void emit_as_numbered(const struct edition *edition, const uint8_t *record, size_t buffer_length);
 void emit_record(const struct edition *edition, const uint8_t *record);
 /* The record's card to read. */
 void emit_card(const struct edition *edition, const uint8_t *record);
@@ -36,6 +39,7 @@ void writing_cases(void);
 void shared_cases(void);
 void edition_cases(void);
 void length_cases(void);
+void number_cases(void);
 
 void write_corpus(uint64_t seed);
 

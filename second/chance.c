@@ -179,6 +179,7 @@ int chance_record_of(uint8_t *record, const uint8_t *table, size_t wanted)
             continue;
         memset(record, 0, RECORD_SIZE);
         random_ends(record);
+        put_number(record, table);
         for (row = 0; row < OBJECT_COUNT; row++)
             chance_fill(record, table, row, lengths[row]);
         return 1;
@@ -239,4 +240,5 @@ void chance_table(uint8_t *table)
         row_to_table(table, row, rule_row);
     }
     row_to_table(table, ROW_8E, checksum);
+    table[TABLE_NUMBER] = (uint8_t)(1 + chance(chance(2) ? 3 : 255));
 }

@@ -57,6 +57,11 @@ void record_full(uint8_t *record)
     set_all(record, values);
 }
 
+void put_number(uint8_t *record, const uint8_t *table)
+{
+    record[RECORD_NUMBER] = table[TABLE_NUMBER];
+}
+
 size_t template_length(const uint8_t *record)
 {
     size_t total = 3;

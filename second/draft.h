@@ -26,6 +26,9 @@ void record_s(uint8_t *record);
 /* As S with all sixteen objects, for both editions. */
 void record_full(uint8_t *record);
 
+/* The number of the table's edition. */
+void put_number(uint8_t *record, const uint8_t *table);
+
 /* The length of the template that holds the record's objects. */
 size_t template_length(const uint8_t *record);
 

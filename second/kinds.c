@@ -6,5 +6,6 @@ const struct kind kinds[] = {
     {'R', "es", answer_read},
     {'W', "ernf", answer_write},
     {'L', "s", answer_length},
+    {'N', "er", answer_renumber},
     {0, "", NULL}
 };

@@ -100,11 +100,14 @@ static uint64_t read_card(const uint8_t *table, const uint8_t *record)
     return read_draft(table, &draft);
 }
 
+/* With the table's number on the record. */
 static uint64_t write_record(const uint8_t *table, const uint8_t *record)
 {
-    uint8_t image[IMAGE_SIZE] = {0};
+    uint8_t image[IMAGE_SIZE] = {0}, numbered[RECORD_SIZE];
 
-    return write_under(table, record, image, IMAGE_SIZE);
+    memcpy(numbered, record, RECORD_SIZE);
+    put_number(numbered, table);
+    return write_under(table, numbered, image, IMAGE_SIZE);
 }
 
 static void test_s(void)
@@ -113,6 +116,7 @@ static void test_s(void)
     struct draft draft;
 
     record_s(record);
+    put_number(record, terminal);
     draft_card(&draft, record);
     CHECK(write_under(terminal, record, image, IMAGE_SIZE) == 0);
     CHECK(memcmp(image, draft.image, IMAGE_SIZE) == 0);
@@ -125,6 +129,8 @@ static void test_s(void)
     CHECK(read_under(issue, image, IMAGE_SIZE, back) == told_7(61, 0x83, 4, 4));
     CHECK(write_record(issue, record) == told_7(0, 0x83, 4, 4));
     set_text(record, ROW_83, "1000");
+    CHECK(write_under(issue, record, image, IMAGE_SIZE) == told(22, 0, 0));
+    put_number(record, issue);
     CHECK(write_under(issue, record, image, IMAGE_SIZE) == 0);
     CHECK(image[31] == 73 && image[104] == 0xCB);
     CHECK(read_under(terminal, image, IMAGE_SIZE, back) == 0);
@@ -362,6 +368,48 @@ static void test_bad_rows(void)
     }
 }
 
+static uint64_t renumber_under(const uint8_t *table, uint8_t *record)
+{
+    uint8_t *own_table = exact_copy(table, TABLE_SIZE);
+    uint8_t *own_record = exact_copy(record, RECORD_SIZE);
+    uint64_t answer = second_renumber(own_table, TABLE_SIZE, own_record, RECORD_SIZE);
+
+    CHECK(memcmp(own_record, record, RECORD_NUMBER) == 0);
+    memcpy(record, own_record, RECORD_SIZE);
+    free(own_table);
+    free(own_record);
+    return answer;
+}
+
+/* What the one edition reads and the other would write, the other writes as the same card with its number on. */
+static void test_numbers(void)
+{
+    uint8_t table[TABLE_SIZE], record[RECORD_SIZE], image[IMAGE_SIZE] = {0};
+    struct draft draft;
+    unsigned number;
+
+    record_full(record);
+    draft_card(&draft, record);
+    memcpy(table, terminal, TABLE_SIZE);
+    for (number = 0; number < 256; number++) {
+        table[TABLE_NUMBER] = (uint8_t)number;
+        CHECK(read_under(issue, draft.image, IMAGE_SIZE, record) == 0 && record[RECORD_NUMBER] == 2);
+        CHECK((write_under(table, record, image, IMAGE_SIZE) & 0xFF) == (number == 0 ? 2u : number == 2 ? 0u : 22u));
+        CHECK(renumber_under(table, record) == (number == 0 ? told(2, 0, 0) : 0));
+        CHECK(record[RECORD_NUMBER] == (number == 0 ? 2 : number));
+        CHECK(number == 0 || write_under(table, record, image, IMAGE_SIZE) == 0);
+        CHECK(number == 0 || memcmp(image, draft.image, IMAGE_SIZE) == 0);
+    }
+    set_text(record, ROW_83, "1");
+    CHECK(renumber_under(issue, record) == told_7(0, 0x83, 4, 4) && record[RECORD_NUMBER] == 255);
+    table[TABLE_NUMBER] = 0;
+    CHECK(read_draft(table, &draft) == told(2, 0, 0));
+    table[0] = 2;
+    CHECK(read_draft(table, &draft) == told(2, 0, 0x80));
+    CHECK(second_renumber(NULL, 0, record, RECORD_SIZE - 1) == told(20, 0, 0));
+    CHECK(second_renumber(NULL, 0, record, RECORD_SIZE) == told(2, 0, 0) && record[RECORD_NUMBER] == 255);
+}
+
 /* An accepted image is the layout of its record, and a written one is accepted with its record. */
 static void test_read_case(const struct test_case *test_case)
 {
@@ -390,6 +438,10 @@ static void test_write_case(const struct test_case *test_case)
     memset(image, test_case->fill, LENT_MAX);
     answer = write_under(table, test_case->record, image, length);
     draft_card(&draft, test_case->record);
+    if (answer == told(22, 0, 0)) {
+        CHECK(test_case->record[RECORD_NUMBER] != table[TABLE_NUMBER]);
+        return;
+    }
     if (answer != 0) {
         CHECK(length != IMAGE_SIZE || read_draft(table, &draft) != 0);
         return;
@@ -471,6 +523,7 @@ int main(int count, char **words)
     test_slips();
     test_sizes();
     test_bad_rows();
+    test_numbers();
     test_random_damage();
     test_lengths();
     for (int i = 1; i < count; i++)

@@ -13,7 +13,7 @@
 
 enum { MARGIN = 64, GUARD = 0x5A, LENDING = 16 };
 
-static const struct comparison *const kinds_compared[] = {&reading, &writing, &length_fields};
+static const struct comparison *const kinds_compared[] = {&reading, &writing, &renumbering, &length_fields};
 
 enum { KIND_COUNT = sizeof kinds_compared / sizeof kinds_compared[0] };
 
@@ -186,7 +186,7 @@ static void compare_edition(uint64_t which, size_t room_len)
 static void compare_editions(void)
 {
     static const uint64_t which[] = {0, 1, 2, 3, 256, 257, 258, UINT64_C(1) << 32, (UINT64_C(1) << 32) + 1, UINT64_MAX};
-    static const size_t lengths[] = {0, 1, 101, 102, 103, 478, 600};
+    static const size_t lengths[] = {0, 1, 101, 102, 103, 104, 479, 600};
     size_t i, k;
 
     for (i = 0; i < sizeof which / sizeof which[0]; i++) {

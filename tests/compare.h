@@ -43,7 +43,7 @@ struct comparison {
     void (*make)(struct call *call);
 };
 
-extern const struct comparison reading, writing, length_fields;
+extern const struct comparison reading, writing, renumbering, length_fields;
 
 /* Material */
 

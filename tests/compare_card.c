@@ -23,6 +23,7 @@ static void make_tables(void)
     memcpy(wide_table, terminal_table, TABLE_SIZE);
     for (row = 0; row < OBJECT_COUNT; row++)
         row_to_table(wide_table, row, any_text);
+    wide_table[TABLE_NUMBER] = 255;
 }
 
 static void choose_table(uint8_t *table)
@@ -171,7 +172,21 @@ static void make_writing(struct call *call)
 
     make_edition(&call->lent[0], entry);
     make_record(&call->lent[1], entry);
+    if (chance(4))
+        put_number(call->lent[1].at, call->lent[0].at);
     set_room(&call->room, IMAGE_SIZE);
+    change_sizes(call);
+}
+
+/* The record is the room. */
+static void make_renumbering(struct call *call)
+{
+    const struct stock *entry = any_stock();
+
+    make_edition(&call->lent[0], entry);
+    make_record(&call->room, entry);
+    if (chance(2))
+        random_bytes(call->room.at + RECORD_NUMBER, 1);
     change_sizes(call);
 }
 
@@ -195,9 +210,22 @@ static uint64_t written_by_second(const struct lent *lent)
     return second_write(lent->at[0], lent->length[0], lent->at[1], lent->length[1], lent->room, lent->room_length);
 }
 
+static uint64_t library_renumber(const struct lent *lent)
+{
+    return kvk_renumber(lent->at[0], lent->length[0], lent->room, lent->room_length);
+}
+
+static uint64_t renumbered_by_second(const struct lent *lent)
+{
+    return second_renumber(lent->at[0], lent->length[0], lent->room, lent->room_length);
+}
+
 const struct comparison reading = {
     "reading", {"edition", "image", NULL}, 1, 12, library_read, read_by_second, make_reading
 };
 const struct comparison writing = {
     "writing", {"edition", "record", NULL}, 1, 8, library_write, written_by_second, make_writing
+};
+const struct comparison renumbering = {
+    "renumber", {"edition", NULL}, 1, 2, library_renumber, renumbered_by_second, make_renumbering
 };

@@ -52,6 +52,7 @@ static void random_record(uint8_t *record, const uint8_t *table)
         int present = row_of_table(table, row).required || chance(100) < keep;
         chance_fill(record, table, row, present ? permitted_length(table, row) : 0);
     }
+    put_number(record, table);
 }
 
 static int is_written(const uint8_t *record, const uint8_t *table)
@@ -101,7 +102,7 @@ void damage_table(uint8_t *table)
     size_t other = chance(ROW_COUNT);
     struct rule_row rule_row = row_of_table(table, row);
 
-    switch (chance(8)) {
+    switch (chance(9)) {
     case 0:
         rule_row.required = (uint8_t)chance(chance(2) ? 3 : 256);
         break;
@@ -123,6 +124,9 @@ void damage_table(uint8_t *table)
         break;
     case 6:
         random_bytes(table + chance(TABLE_SIZE), 1);
+        return;
+    case 7:
+        table[TABLE_NUMBER] = (uint8_t)chance(3);
         return;
     default:
         random_bytes(table + row * ROW_SIZE, ROW_SIZE);
@@ -196,7 +200,7 @@ void damage_record(uint8_t *record, const uint8_t *table)
     size_t row = chance(OBJECT_COUNT);
     uint8_t *slot = slot_of(record, row);
 
-    switch (chance(13)) {
+    switch (chance(14)) {
     case 0:
         slot[0] = (uint8_t)other_length(slot[0]);
         break;
@@ -225,6 +229,9 @@ void damage_record(uint8_t *record, const uint8_t *table)
         break;
     case 10:
         put_edge_date(slot_of(record, chance(2) ? ROW_88 : ROW_8D));
+        break;
+    case 12:
+        record[RECORD_NUMBER] = (uint8_t)chance(chance(2) ? 3 : 256);
         break;
     case 11:
         put_d(chance(2) ? slot : slot_of(record, ROW_8A));

@@ -9,7 +9,7 @@ use lib.Dec.{eqb, leb}
 use lib.ListN.{length, take}
 use Rattle.edition.specs.declared.Edition.{Edition}
 use Rattle.edition.specs.declared.Formed.{Formed}
-use Rattle.edition.specs.declared.Formed.the-variants.{Well, Bad}
+use Rattle.edition.specs.declared.Formed.the-variants.{Well, Bad, Unnumbered}
 use Rattle.card.specs.declared.Refusal.{Refusal}
 use Rattle.card.specs.Content.{Content}
 use Rattle.card.specs.Refusals.{none, gate, orElse, badRow}
@@ -96,6 +96,7 @@ pub table-well : (f : Formed) → badRow f .number ≡ 0 → f ≡ Well
 unfolding badRow
 table-well Well e = refl
 table-well (Bad k) e = absurd (omega arith)
+table-well Unnumbered e = absurd (omega arith)
 
 -- ---- the answer of a chain
 pub answered-in : (x : Refusal) (c d : Content) → answered x c ≡ accepted d → (x .number ≡ 0) × (c ≡ d)

@@ -18,7 +18,7 @@ use Rattle.rules.specs.Values.{between, isDigit, isText, takes, judged}
 use Rattle.edition.specs.Rows.{tags, setFormed, byRule, rowFormed, formedFrom}
 use Rattle.ground.proofs.Lists.{true-false, and-left, and-right, leading-before}
 use Rattle.rules.proofs.Verdicts.{taken-means}
-use Rattle.edition.proofs.Rows.{formed-head, row-within, permits-most}
+use Rattle.edition.proofs.Rows.{formed-rows, formed-head, row-within, permits-most}
 use Rattle.card.specs.Content.{Content}
 use Rattle.lengths.specs.Lengths.{lengthField}
 use Rattle.card.specs.Layout.{identifier, head, object, body, templateLength, summed, spaces, lasts, filler, objectTags, objectsOf, layout}
@@ -193,7 +193,7 @@ last-below first b t =
 -- the bytes of the layout of an allowed content are below 256, where the free bytes are
 pub layout-octets : (e : Edition) (c : Content) → Allowed e c → Octets (c .free) → Octets (layout c)
 layout-octets e c a p =
-    let o : Octets (objectsOf c) = body-octets 0 objectTags (e .rows) (c .values) sixteen tags-octets (a .formed) (a .rows) in
+    let o : Octets (objectsOf c) = body-octets 0 objectTags (e .rows) (c .values) sixteen tags-octets (formed-rows e (a .formed)) (a .rows) in
     let s : Octets (summed (objectsOf c)) = summed-octets (objectsOf c) (omega (arith, a .most)) o in
     rw (layout-parts c (objectsOf c) refl)
     (octets-append (head-octets (c .first) (c .free) (first-below (c .first) (a .first)) p)

@@ -10,7 +10,7 @@ use lib.Seq.{take-at, length-take-le}
 use borrow.Author.Tests.{eqb-true}
 use Rattle.edition.specs.declared.Edition.{Edition}
 use Rattle.edition.specs.declared.Formed.the-variants.{Well}
-use Rattle.edition.specs.Rows.{tags, formedFrom}
+use Rattle.edition.specs.Rows.{tags, formedOf}
 use Rattle.ground.proofs.Lists.{agree-same}
 use Rattle.card.specs.Refusals.{none}
 use Rattle.card.specs.Layout.{head, body, xorAll, objectTags}
@@ -54,7 +54,7 @@ front-in s n z =
 
 pub record Before (e : Edition) (s : List ℕ) : Type 0 where
   pub size : length s ≡ 256
-  pub formed : formedFrom 0 (e .rows) ≡ Well
+  pub formed : formedOf e ≡ Well
   pub front : Front s
   pub walked : walkRefusal s (walkOf e s) .number ≡ 0
 
@@ -80,7 +80,7 @@ empty-is : (bs : List ℕ) → length bs ≡ 0 → bs ≡ []
 empty-is [] e = refl
 empty-is (b ∷ bs) e = absurd (omega arith)
 
-pub through-of : (e : Edition) (s : List ℕ) → length (e .rows) ≡ 17 → formedFrom 0 (e .rows) ≡ Well
+pub through-of : (e : Edition) (s : List ℕ) → length (e .rows) ≡ 17 → formedOf e ≡ Well
     → objectsRefusal (walkOf e s) .number ≡ 0 → restRefusal (endOf s) (length (restIn (walkOf e s))) .number ≡ 0 → Through e s
 unfolding restRefusal
 through-of e s n f objects rest = go (walkOf e s) refl objects rest

@@ -11,8 +11,9 @@ use Rattle.edition.specs.declared.Row.{Row}
 use Rattle.edition.specs.declared.Edition.{Edition}
 use Rattle.edition.specs.declared.Formed.the-variants.{Well}
 use Rattle.edition.specs.Rows.{rowFormed, formedFrom}
-use Rattle.edition.proofs.Rows.{formed-head, row-within, permits-most}
-use Rattle.card.specs.Content.{Content, valueOf, contentOf, objectOf, recordOf}
+use Rattle.edition.proofs.Rows.{formed-rows, formed-head, row-within, permits-most}
+use Rattle.card.specs.declared.Record.{Record}
+use Rattle.card.specs.Content.{Content, valueOf, contentOf, objectOf, recordOf, numbered}
 use Rattle.card.specs.Layout.{objectTags}
 use Rattle.card.specs.Rules.{entries, RowMet, AllMet, none-left, one-more, Allowed}
 
@@ -35,7 +36,7 @@ met-from k (t ∷ ts) (r ∷ rs) vs f (one-more {v = v} {vs = us} m a) =
     short-more (row-short k r v (h .0) m) (met-from (suc k) ts rs us (h .1) a)
 
 pub allowed-short : (e : Edition) (c : Content) → Allowed e c → Short (c .values)
-allowed-short e c a = met-from 0 objectTags (e .rows) (c .values) (a .formed) (a .rows)
+allowed-short e c a = met-from 0 objectTags (e .rows) (c .values) (formed-rows e (a .formed)) (a .rows)
 
 pub value-back : (v : List ℕ) → valueOf (objectOf v) ≡ v
 unfolding valueOf objectOf
@@ -46,6 +47,16 @@ values-back [] = refl
 values-back (v ∷ vs) = rw (value-back v, values-back vs)
 
 -- the content of the record of a content is the content
-pub content-back : (c : Content) → contentOf (recordOf c) ≡ c
+pub content-back : (number : ℕ) (c : Content) → contentOf (recordOf number c) ≡ c
 unfolding contentOf recordOf
-content-back c = rw (values-back (c .values))
+content-back number c = rw (values-back (c .values))
+
+-- and its number the number
+pub number-back : (number : ℕ) (c : Content) → recordOf number c .number ≡ number
+unfolding recordOf
+number-back number c = refl
+
+-- a number put on is all that changes
+pub content-numbered : (number : ℕ) (r : Record) → contentOf (numbered number r) ≡ contentOf r
+unfolding contentOf
+content-numbered number r = refl

@@ -10,8 +10,8 @@ use Rattle.edition.specs.declared.Row.{Row}
 use Rattle.edition.specs.declared.Edition.{Edition}
 use Rattle.edition.specs.declared.Formed.the-variants.{Well}
 use Rattle.ground.specs.Lists.{distinct}
-use Rattle.edition.specs.Rows.{tags, rowFormed, formedFrom}
-use Rattle.edition.proofs.Rows.{tags-distinct, formed-head, last-formed}
+use Rattle.edition.specs.Rows.{tags, rowFormed, formedFrom, formedOf}
+use Rattle.edition.proofs.Rows.{formed-rows, tags-distinct, formed-head, last-formed}
 use Rattle.card.specs.Layout.{body, objectTags}
 use Rattle.card.specs.Rules.{Entry, entries, objectRows}
 use Rattle.card.specs.Walk.{tagsOf, walk}
@@ -68,10 +68,10 @@ pub record Table (e : Edition) : Type 0 where
   pub tagged : tagsOf (withEight (objectRows e)) ≡ tags
   pub count : length (objectRows e) ≡ 16
 
-pub table-of : (e : Edition) → length (e .rows) ≡ 17 → formedFrom 0 (e .rows) ≡ Well → Table e
+pub table-of : (e : Edition) → length (e .rows) ≡ 17 → formedOf e ≡ Well → Table e
 unfolding tags
 table-of e n h =
-    let r : Rowed objectTags (e .rows) = rowed 0 objectTags (e .rows) refl n h in
+    let r : Rowed objectTags (e .rows) = rowed 0 objectTags (e .rows) refl n (formed-rows e h) in
     record {
       whole = r .whole;
       tagged = tags-eight (objectRows e) ∙ ap (λ (ts : List ℕ). ts ++ (0x8E ∷ [])) (r .tagged);

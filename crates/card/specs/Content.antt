@@ -22,13 +22,18 @@ contentOf r = record { first = r .first; free = r .free; last = r .last; values 
 unfoldable pub objectOf : List ℕ → Object
 objectOf v = record { length = length v; bytes = v ++ replicate (28 - length v) 0 }
 
-unfoldable pub recordOf : Content → Record
-recordOf c = record { first = c .first; free = c .free; last = c .last; objects = map objectOf (c .values) }
+-- a record holds what stands on a card, and the number of an edition, which stands on no card
+unfoldable pub recordOf : ℕ → Content → Record
+recordOf number c = record { first = c .first; free = c .free; last = c .last; objects = map objectOf (c .values); number = number }
+
+-- the record with this number put on, the same but for it
+abbrev pub numbered : ℕ → Record → Record
+numbered number r = record { first = r .first; free = r .free; last = r .last; objects = r .objects; number = number }
 
 -- the empty record is all 0
 unfoldable pub emptyRecord : Record
 unfolding recordOf objectOf
-emptyRecord = recordOf (record { first = 0; free = replicate 12 0; last = 0; values = replicate 16 [] })
+emptyRecord = recordOf 0 (record { first = 0; free = replicate 12 0; last = 0; values = replicate 16 [] })
 
 -- what stands past the end of a list of objects
 abbrev pub noObject : Object

@@ -5,7 +5,7 @@ use mathlib.Core.List.{List, [], map}
 use lib.Dec.{eqb}
 use lib.ListN.{length, take, drop, getD}
 use Rattle.edition.specs.declared.Edition.{Edition}
-use Rattle.edition.specs.Rows.{tags, formedFrom}
+use Rattle.edition.specs.Rows.{tags, formedOf}
 use Rattle.card.specs.declared.Refusal.{Refusal}
 use Rattle.card.specs.declared.Reading.{Reading}
 use Rattle.card.specs.Content.{Content, recordOf, emptyRecord}
@@ -72,7 +72,7 @@ walkOf e s = walk (entries tags (e .rows)) (startOf s) (objectsIn s)
 unfoldable pub readRefusal : Edition → List ℕ → Refusal
 readRefusal e s =
     orElse (sizeRefusal 1 (length s))
-    (orElse (badRow (formedFrom 0 (e .rows)))
+    (orElse (badRow (formedOf e))
     (orElse (frontRefusal s)
     (walkRefusal s (walkOf e s))))
 
@@ -86,10 +86,10 @@ answered x c = cond (eqb (x .number) 0) (accepted c) (refused x)
 unfoldable pub answer : Edition → List ℕ → Answer
 answer e s = answered (readRefusal e s) (contentAt s (take 16 (valuesIn (walkOf e s))))
 
--- an accepted image gives its record, a refused one the empty record
-unfoldable pub answerOf : Answer → Reading
-answerOf (accepted c) = record { refusal = none; content = recordOf c }
-answerOf (refused x) = record { refusal = x; content = emptyRecord }
+-- an accepted image gives its record with the edition's number, a refused one the empty record
+unfoldable pub answerOf : ℕ → Answer → Reading
+answerOf number (accepted c) = record { refusal = none; content = recordOf number c }
+answerOf number (refused x) = record { refusal = x; content = emptyRecord }
 
 abbrev pub reading : Edition → List ℕ → Reading
-reading e s = answerOf (answer e s)
+reading e s = answerOf (e .number) (answer e s)

@@ -3,7 +3,7 @@ use Prim.Native.Nat.{ℕ}
 use mathlib.Core.Bool.{Bool, true, false, cond}
 use lib.Dec.{eqb}
 use Rattle.edition.specs.declared.Formed.{Formed}
-use Rattle.edition.specs.declared.Formed.the-variants.{Well, Bad}
+use Rattle.edition.specs.declared.Formed.the-variants.{Well, Bad, Unnumbered}
 use Rattle.edition.specs.Rows.{tagOf}
 use Rattle.edition.specs.Sets.{shortestOf, longestOf}
 use Rattle.card.specs.declared.Refusal.{Refusal}
@@ -31,7 +31,8 @@ orElse a b = cond (eqb (a .number) 0) b a
 abbrev pub sizeRefusal : ℕ → ℕ → Refusal
 sizeRefusal number n = gate (eqb n 256) (refuse number 0 0) none
 
--- 2: the tag of the first bad row
+-- 2: the tag of the first bad row; 0 for an edition with no number
 unfoldable pub badRow : Formed → Refusal
 badRow Well = none
 badRow (Bad k) = refuse 2 0 (tagOf k)
+badRow Unnumbered = refuse 2 0 0

@@ -1,11 +1,11 @@
--- What a record is refused with: 20, 2, 3, row by row 6, 7, 9, 10, then 11, then 4.
+-- What a record is refused with: 20, 2, 22, 3, row by row 6, 7, 9, 10, then 11, then 4.
 use Prim.Native.Nat.{ℕ}
 use mathlib.Core.Bool.{_&&_}
 use mathlib.Core.List.{List, [], _∷_, map}
 use lib.ListN.{length}
-use lib.Dec.{leb}
+use lib.Dec.{eqb, leb}
 use Rattle.edition.specs.declared.Edition.{Edition}
-use Rattle.edition.specs.Rows.{formedFrom}
+use Rattle.edition.specs.Rows.{formedOf}
 use Rattle.card.specs.declared.Refusal.{Refusal}
 use Rattle.card.specs.Content.{Content}
 use Rattle.card.specs.Refusals.{refuse, refuseLength, none, gate, orElse, sizeRefusal, badRow}
@@ -35,12 +35,26 @@ endsRefusal first last = gate (firstAllowed first) (refuse 3 0 0) (gate (lastAll
 unfoldable pub templateRefusal : Content → Refusal
 templateRefusal c = gate (leb 70 (templateLength (objectsOf c)) && leb (templateLength (objectsOf c)) 212) (refuse 4 0 0) none
 
--- what a content is refused with, in a buffer of n bytes
-unfoldable pub writeRefusal : Edition → Content → ℕ → Refusal
-writeRefusal e c n =
-    orElse (sizeRefusal 20 n)
-    (orElse (badRow (formedFrom 0 (e .rows)))
-    (orElse (endsRefusal (c .first) (c .last))
+-- 22: the numbers of edition and record differ
+unfoldable pub numberRefusal : ℕ → ℕ → Refusal
+numberRefusal edition number = gate (eqb number edition) (refuse 22 0 0) none
+
+-- what a content is refused with under a well-formed edition
+unfoldable pub contentRefusal : Edition → Content → Refusal
+contentRefusal e c =
+    orElse (endsRefusal (c .first) (c .last))
     (orElse (rowsRefusal (objectRows e) (c .values))
     (orElse (sumsRefusal nowhere (map length (c .values)))
-    (templateRefusal c)))))
+    (templateRefusal c)))
+
+-- what an edition refuses of a content, whatever number stands beside it
+unfoldable pub editionRefusal : Edition → Content → Refusal
+editionRefusal e c = orElse (badRow (formedOf e)) (contentRefusal e c)
+
+-- what a content with a number is refused with, in a buffer of n bytes
+unfoldable pub writeRefusal : Edition → ℕ → Content → ℕ → Refusal
+writeRefusal e number c n =
+    orElse (sizeRefusal 20 n)
+    (orElse (badRow (formedOf e))
+    (orElse (numberRefusal (e .number) number)
+    (contentRefusal e c)))

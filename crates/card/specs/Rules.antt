@@ -13,7 +13,7 @@ use Rattle.rules.specs.declared.values.Verdict.the-variants.{Takes, Outside, Br
 use Rattle.ground.specs.Lists.{leading}
 use Rattle.edition.specs.Sets.{permitted}
 use Rattle.rules.specs.Values.{judged}
-use Rattle.edition.specs.Rows.{formedFrom}
+use Rattle.edition.specs.Rows.{formedOf}
 use Rattle.card.specs.Content.{Content}
 use Rattle.card.specs.Layout.{objectTags, objectsOf, templateLength, layout}
 
@@ -91,7 +91,7 @@ townFits ns = sumFits true (getD ns 12 0) (getD ns 13 0) (getD ns 14 0)
 
 -- a content that an edition allows
 pub record Allowed (e : Edition) (c : Content) : Type 0 where
-  pub formed : formedFrom 0 (e .rows) ≡ Well
+  pub formed : formedOf e ≡ Well
   pub rows : AllMet (objectRows e) (c .values)
   pub names : namesFit (map length (c .values)) ≡ true
   pub town : townFits (map length (c .values)) ≡ true

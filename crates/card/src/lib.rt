@@ -36,6 +36,8 @@ pub struct Record {
     pub last: u8,
     // In card order, without the checksum.
     pub objects: [Object; 16],
+    // That of the edition that the record was read under; 0 in the empty record.
+    pub number: u8,
 }
 
 // Shortest and longest are the ends of the row's length set with number 7, else 0. All 0: no refusal.
@@ -74,6 +76,7 @@ impl Record {
         free: [0; 12],
         last: 0,
         objects: [Object::ABSENT; 16],
+        number: 0,
     };
 
     pub fn empty() -> Record

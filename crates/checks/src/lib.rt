@@ -12,7 +12,9 @@ use edition::Edition;
 pub use space::objects_size;
 ghost use mathlib.Core.Path.{_≡_};
 ghost use Rattle.card.specs.Content.{contentOf};
-ghost use Rattle.card.specs.Refusing.{endsRefusal, writeRefusal};
+ghost use Rattle.edition.specs.declared.Formed.the-variants.{Well};
+ghost use Rattle.edition.specs.Rows.{formedOf};
+ghost use Rattle.card.specs.Refusing.{endsRefusal, numberRefusal, contentRefusal, editionRefusal, writeRefusal};
 
 // 3: address 0 and the last byte.
 fn check_ends(first: u8, last: u8) -> Refusal
@@ -25,17 +27,22 @@ fn check_ends(first: u8, last: u8) -> Refusal
     }
 }
 
-// The first refusal of a record, in a buffer of `size` bytes.
-pub fn check(edition: Edition, content: Record, size: usize) -> Refusal
-    ensures { λ r. ⌜ r ≡ writeRefusal edition (contentOf content) size ⌝ }
+// 22: the numbers of edition and record.
+fn check_numbers(edition: u8, number: u8) -> Refusal
+    ensures { λ r. ⌜ r ≡ numberRefusal edition number ⌝ }
 {
-    if size != 256 {
-        return Refusal::new(20, 0, 0);
+    if number == edition {
+        Refusal::NONE
+    } else {
+        Refusal::new(22, 0, 0)
     }
-    let table = card::refuse_edition(edition);
-    if table.number != 0 {
-        return table;
-    }
+}
+
+// 3, row by row 6, 7, 9 and 10, then 11, then 4.
+fn refuse_content(edition: Edition, content: Record) -> Refusal
+    requires { ⌜ formedOf edition ≡ Well ⌝ }
+    ensures { λ r. ⌜ r ≡ contentRefusal edition (contentOf content) ⌝ }
+{
     let ends = check_ends(content.first, content.last);
     if ends.number != 0 {
         return ends;
@@ -45,4 +52,31 @@ pub fn check(edition: Edition, content: Record, size: usize) -> Refusal
         return rows;
     }
     sizes::check_sizes(content)
+}
+
+// The first refusal of a record but for its number: what writing would tell of it with the edition's number put on.
+pub fn check_content(edition: Edition, content: Record) -> Refusal
+    ensures { λ r. ⌜ r ≡ editionRefusal edition (contentOf content) ⌝ }
+{
+    let table = card::refuse_edition(edition);
+    if table.number != 0 {
+        return table;
+    }
+    refuse_content(edition, content)
+}
+
+// The first refusal of a record, in a buffer of `size` bytes.
+pub fn check(edition: Edition, content: Record, size: usize) -> Refusal
+    ensures { λ r. ⌜ r ≡ writeRefusal edition (content .number) (contentOf content) size ⌝ }
+{
+    if size != 256 {
+        return Refusal::new(20, 0, 0);
+    }
+    let ill_formed = card::refuse_edition(edition);
+    if ill_formed.number != 0 {
+        return ill_formed;
+    }
+    let numbers = check_numbers(edition.number, content.number);
+    let rest = refuse_content(edition, content);
+    chain::first_of(numbers, rest)
 }

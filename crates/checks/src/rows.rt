@@ -8,7 +8,7 @@ use rules::Verdict;
 ghost use mathlib.Core.Path.{_≡_};
 ghost use Prim.Native.Nat.{_≤_, _<_, _^_};
 ghost use Rattle.edition.specs.declared.Formed.the-variants.{Well};
-ghost use Rattle.edition.specs.Rows.{formedFrom};
+ghost use Rattle.edition.specs.Rows.{formedOf};
 ghost use Rattle.rules.specs.Values.{judged};
 ghost use Rattle.card.specs.Content.{valueOf, contentOf};
 ghost use Rattle.card.specs.Rules.{ofVerdict, fault, objectRows};
@@ -52,7 +52,7 @@ fn check_row(row: Row, tag: u8, item: Object) -> Refusal
 
 // The first refusal of the sixteen rows, in card order.
 pub(crate) fn check_rows(edition: Edition, content: Record) -> Refusal
-    requires { ⌜ formedFrom 0 (edition .rows) ≡ Well ⌝ }
+    requires { ⌜ formedOf edition ≡ Well ⌝ }
     ensures { λ r. ⌜ r ≡ rowsRefusal (objectRows edition) (contentOf content .values) ⌝ }
 {
     let mut i = 0;

@@ -56,9 +56,9 @@ fn write_slot(slot: &[u8]) -> u64
     count_not_zero(&slot[end..])
 }
 
-// Writes a content, and how many bytes behind its values are not 0.
+// Writes a content, how many bytes behind its values are not 0, and its number.
 pub(crate) fn write_content(content: &[u8])
-    requires { ⌜ length (now content) ≡ 478 ⌝ }
+    requires { ⌜ length (now content) ≡ 479 ⌝ }
 {
     io::write_all(STDOUT_FILENO, b" ");
     write_hex(&content[..14]);
@@ -71,4 +71,5 @@ pub(crate) fn write_content(content: &[u8])
         k += 1;
     }
     write_number(behind);
+    write_number(ground::byte_at(content, 478) as u64);
 }

@@ -101,7 +101,7 @@ fn get_slot(slot: &mut [u8]) -> bool
 }
 
 pub(crate) fn get_content(content: &mut [u8]) -> bool
-    requires { ⌜ length (now content) ≡ 478 ⌝ }
+    requires { ⌜ length (now content) ≡ 479 ⌝ }
 {
     if !get(&mut content[..14]) {
         return false;
@@ -115,5 +115,5 @@ pub(crate) fn get_content(content: &mut [u8]) -> bool
         }
         k += 1;
     }
-    true
+    get(&mut content[478..])
 }

@@ -12,7 +12,7 @@ fn read_image(table: &[u8], image: &mut [u8]) -> bool {
     if !cases::get(image) {
         return false;
     }
-    let mut content = [0xA5u8; 478];
+    let mut content = [0xA5u8; 479];
     let answer = kvk::kvk_read(table, image, &mut content);
     io::write_all(STDOUT_FILENO, b"R");
     answers::write_answer(answer);
@@ -25,7 +25,7 @@ fn read_image(table: &[u8], image: &mut [u8]) -> bool {
 
 // Answers whether the case was whole.
 fn run_read() -> bool {
-    let mut table = [0u8; 102];
+    let mut table = [0u8; 103];
     if !cases::get_table(&mut table) {
         return false;
     }
@@ -53,11 +53,11 @@ fn write_image(table: &[u8], content: &[u8], fill: u8, buffer: &mut [u8]) {
 
 // Answers whether the case was whole.
 fn run_write() -> bool {
-    let mut table = [0u8; 102];
+    let mut table = [0u8; 103];
     if !cases::get_table(&mut table) {
         return false;
     }
-    let mut content = [0u8; 478];
+    let mut content = [0u8; 479];
     if !cases::get_content(&mut content) {
         return false;
     }
@@ -68,6 +68,27 @@ fn run_write() -> bool {
     }
     let mut buffer = [0u8; 600];
     write_image(&table, &content, fill[0], &mut buffer[..length]);
+    true
+}
+
+// Answers whether the case was whole.
+fn run_renumber() -> bool {
+    let mut table = [0u8; 103];
+    if !cases::get_table(&mut table) {
+        return false;
+    }
+    let mut content = [0u8; 479];
+    if !cases::get_content(&mut content) {
+        return false;
+    }
+    let before = content;
+    let answer = kvk::kvk_renumber(&table, &mut content);
+    io::write_all(STDOUT_FILENO, b"N");
+    answers::write_answer(answer);
+    answers::write_number(ground::byte_at(&content, 478) as u64);
+    // No other byte changes: where one did, this line would differ from the second program's.
+    answers::write_number((ground::count_same(&content, &before) < 478) as u64);
+    io::write_all(STDOUT_FILENO, b"\n");
     true
 }
 
@@ -82,6 +103,8 @@ fn run_case() -> bool {
         run_read()
     } else if kind[0] == b'W' {
         run_write()
+    } else if kind[0] == b'N' {
+        run_renumber()
     } else if kind[0] == b'L' {
         foreign::run_length(&mut room)
     } else {

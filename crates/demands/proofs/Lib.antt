@@ -11,3 +11,4 @@ pub mod ReadingSays
 pub mod WritingSays
 pub mod Library
 pub mod Wrong
+pub mod Renumbering

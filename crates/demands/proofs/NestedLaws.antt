@@ -10,7 +10,7 @@ use Rattle.edition.specs.declared.Row.{Row}
 use Rattle.edition.specs.declared.Edition.{Edition}
 use Rattle.edition.specs.declared.Formed.the-variants.{Well}
 use Rattle.ground.specs.Lists.{among}
-use Rattle.edition.specs.Rows.{tags, formedFrom}
+use Rattle.edition.specs.Rows.{tags, formedOf}
 use Rattle.card.specs.declared.Refusal.{Refusal}
 use Rattle.card.specs.Content.{Content}
 use Rattle.card.specs.Layout.{object, objectTags, layout}
@@ -39,9 +39,9 @@ unmet-one (later m f) (here n) = absurd (n m)
 unmet-one (later m f) (later k g) = unmet-one f g
 
 -- its refusal has the number 6, 7, 9 or 10
-pub numbered : {rs : List Entry} {at : ℕ} {vs : List (List ℕ)} {x : Refusal} → FirstUnmet rs at vs x → among (x .number) (6 ∷ 7 ∷ 9 ∷ 10 ∷ []) ≡ true
+pub fault-numbered : {rs : List Entry} {at : ℕ} {vs : List (List ℕ)} {x : Refusal} → FirstUnmet rs at vs x → among (x .number) (6 ∷ 7 ∷ 9 ∷ 10 ∷ []) ≡ true
 unfolding faultAt among
-numbered (here {r} {v} {rs} {vs} {at} n) = go (fault (r .row) v) refl
+fault-numbered (here {r} {v} {rs} {vs} {at} n) = go (fault (r .row) v) refl
   where
     go : (f : Fault) → fault (r .row) v ≡ f → among ((faultAt r at f) .number) (6 ∷ 7 ∷ 9 ∷ 10 ∷ []) ≡ true
     go met e = absurd (n (met-fault (r .row) v e))
@@ -49,7 +49,7 @@ numbered (here {r} {v} {rs} {vs} {at} n) = go (fault (r .row) v) refl
     go length-out e = refl
     go (byte-out i) e = refl
     go value-out e = refl
-numbered (later m f) = numbered f
+fault-numbered (later m f) = fault-numbered f
 
 -- ---- either all rows are met, or the walk stops at the first that is not
 row-settled : (r : Entry) (v : List ℕ) (at : ℕ) (f : Fault) (w : Walked) → fault (r .row) v ≡ f
@@ -109,7 +109,7 @@ pub nested-count : (i o : Edition) → Nested i o → length (i .rows) ≡ lengt
 nested-count i o n = rows-count (n .rows)
 
 -- what one edition allows, another allows where all its rows are met
-pub allowed-by : (a b : Edition) (c : Content) → formedFrom 0 (b .rows) ≡ Well → AllMet (objectRows b) (c .values) → Allowed a c → Allowed b c
+pub allowed-by : (a b : Edition) (c : Content) → formedOf b ≡ Well → AllMet (objectRows b) (c .values) → Allowed a c → Allowed b c
 allowed-by a b c f r m = record {
   formed = f;
   rows = r;
@@ -159,4 +159,4 @@ inner-reads i o s c size n e = with-reached (reached o s c (met-length (m .0 .ro
 
         cases : Settled (objectRows i) (startOf s) (c .values) (appraise (withEight (objectRows i)) (startOf s) (c .values ++ ((r .k ∷ []) ∷ []))) → Goal
         cases (inl a) = inl (a, read-complete i s c (nested-count i o n ∙ size) (allowed-by o i c (n .inner) a (m .0)) (m .1))
-        cases (inr (x, f, w)) = inr (x, f, answer-by i s (stopped x) (r .answers i (n .inner)) (walked ∙ w) ∙ stopped-first s x _ (λ z. true-false (rw z at (numbered f)) refl))
+        cases (inr (x, f, w)) = inr (x, f, answer-by i s (stopped x) (r .answers i (n .inner)) (walked ∙ w) ∙ stopped-first s x _ (λ z. true-false (rw z at (fault-numbered f)) refl))

@@ -17,14 +17,14 @@ use Rattle.edition.specs.declared.Formed.the-variants.{Well}
 use Rattle.rules.specs.declared.values.Verdict.the-variants.{Takes}
 use Rattle.edition.specs.Sets.{permitted}
 use Rattle.rules.specs.Values.{isDigit, isText, byClass, takes, isLead, isCode, isBirth, isExpiry, isNotD, two, bySense, holds, judged}
-use Rattle.edition.specs.Rows.{setFormed, formedFrom}
+use Rattle.edition.specs.Rows.{setFormed, formedFrom, formedOf}
 use Rattle.edition.specs.Tables.{terminal, issue}
 use Rattle.ground.proofs.Lists.{true-false, and-left, and-right, leading-wider}
 use Rattle.edition.proofs.Sets.{beyond}
 use Rattle.rules.proofs.Verdicts.{taken-means, means-taken, not-d-means}
 use Rattle.edition.proofs.Shipped.{terminal-formed, issue-formed}
 use Rattle.demands.specs.Nested.{Within, NestedRows, no-rows, one-row, Nested}
-use Rattle.edition.proofs.Rows.{formed-head}
+use Rattle.edition.proofs.Rows.{formed-rows, formed-head}
 
 -- ---- tests of tests
 abbrev implies : Bool → Bool → Bool
@@ -162,9 +162,9 @@ rows-nested k (i ∷ is) (o ∷ os) f h =
     one-row (row-within i o (and-left (setFormed (i .lengths)) _ (w .0)) (and-left (rowTest i o) (rowsTest is os) h))
     (rows-nested (suc k) is os (w .1) (and-right (rowTest i o) (rowsTest is os) h))
 
-pub nested-by-test : (i o : Edition) → formedFrom 0 (i .rows) ≡ Well → formedFrom 0 (o .rows) ≡ Well → nestedTest i o ≡ true → Nested i o
+pub nested-by-test : (i o : Edition) → formedOf i ≡ Well → formedOf o ≡ Well → nestedTest i o ≡ true → Nested i o
 unfolding nestedTest
-nested-by-test i o f g h = record { inner = f; outer = g; rows = rows-nested 0 (i .rows) (o .rows) f h }
+nested-by-test i o f g h = record { inner = f; outer = g; rows = rows-nested 0 (i .rows) (o .rows) (formed-rows i f) h }
 
 pub issue-nested : Nested issue terminal
 unfolding issue terminal nestedTest rowsTest rowTest subset permitted charactersTest senseTest

@@ -10,11 +10,11 @@ use borrow.Author.Tests.{eqb-true, eqb-false}
 use Rattle.edition.specs.declared.Row.{Row}
 use Rattle.edition.specs.declared.Edition.{Edition}
 use Rattle.edition.specs.declared.Formed.{Formed}
-use Rattle.edition.specs.declared.Formed.the-variants.{Well, Bad}
+use Rattle.edition.specs.declared.Formed.the-variants.{Well, Bad, Unnumbered}
 use Rattle.ground.specs.Lists.{among}
 use Rattle.ground.proofs.Lists.{agree-within, leading-most, among-more, among-front}
-use Rattle.edition.specs.Rows.{tags, tagOf, noRow, formedFrom}
-use Rattle.edition.proofs.Rows.{bad-below}
+use Rattle.edition.specs.Rows.{tags, tagOf, noRow, formedOf}
+use Rattle.edition.proofs.Rows.{bad-below, bad-rows, number-zero}
 use Rattle.card.specs.declared.Refusal.{Refusal}
 use Rattle.card.specs.declared.fields.LengthField.{LengthField}
 use Rattle.card.specs.declared.fields.LengthField.the-variants.{One, Two, Other, Cut}
@@ -31,7 +31,7 @@ use Rattle.card.proofs.Walks.{sound, In, front, behind, Stops, no-tag, at-row, 
 use Rattle.card.proofs.Seventeen.{Table, table-of, withEight}
 use Rattle.card.proofs.FieldsRead.{sizeOf, FieldBack}
 use Rattle.card.proofs.Readings.{front-in}
-use Rattle.demands.specs.Demands.{LentEdition, ReadingSays, no-row, of-row, of-length}
+use Rattle.demands.specs.Demands.{LentEdition, ReadingSays, no-row, of-row, of-length, unnumbered}
 
 -- of a link: it refuses nothing, or says what a reading may say
 abbrev Says : Edition → Refusal → Type 0
@@ -41,10 +41,11 @@ nothing : (e : Edition) → Says e none
 nothing e = λ some. absurd (some refl)
 
 -- ---- 2
-bad-says : (e : Edition) (f : Formed) → LentEdition e → formedFrom 0 (e .rows) ≡ f → Says e (badRow f)
+bad-says : (e : Edition) (f : Formed) → LentEdition e → formedOf e ≡ f → Says e (badRow f)
 unfolding badRow among
 bad-says e Well n q = nothing e
-bad-says e (Bad k) n q = λ some. of-row 2 0 k refl (omega arith) (omega (arith, bad-below 0 (e .rows) k q))
+bad-says e (Bad k) n q = λ some. of-row 2 0 k refl (omega arith) (omega (arith, bad-below 0 (e .rows) k (bad-rows e k q)))
+bad-says e Unnumbered n q = λ some. unnumbered (number-zero e q)
 
 -- ---- 3 and 4
 take-most : (n : ℕ) (l : List ℕ) → length (take n l) ≤ n

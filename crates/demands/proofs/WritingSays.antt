@@ -12,7 +12,7 @@ use borrow.Author.Tests.{eqb-true, eqb-false}
 use Rattle.edition.specs.declared.Row.{Row}
 use Rattle.edition.specs.declared.Edition.{Edition}
 use Rattle.edition.specs.declared.Formed.{Formed}
-use Rattle.edition.specs.declared.Formed.the-variants.{Well, Bad}
+use Rattle.edition.specs.declared.Formed.the-variants.{Well, Bad, Unnumbered}
 use Rattle.rules.specs.declared.values.Verdict.{Verdict}
 use Rattle.rules.specs.declared.values.Verdict.the-variants.{Takes, Outside, Breaks}
 use Rattle.ground.specs.Lists.{among}
@@ -20,8 +20,8 @@ use Rattle.rules.specs.Values.{judged}
 use Rattle.ground.proofs.Lists.{leading-most}
 use Rattle.rules.proofs.Verdicts.{nine-means}
 use Rattle.edition.specs.Sets.{permitted}
-use Rattle.edition.specs.Rows.{tags, tagOf, noRow, formedFrom}
-use Rattle.edition.proofs.Rows.{bad-below}
+use Rattle.edition.specs.Rows.{tags, tagOf, noRow, formedOf}
+use Rattle.edition.proofs.Rows.{bad-below, bad-rows, number-zero}
 use Rattle.card.specs.declared.Object.{Object}
 use Rattle.card.specs.declared.Record.{Record}
 use Rattle.card.specs.declared.Refusal.{Refusal}
@@ -30,10 +30,10 @@ use Rattle.card.specs.Refusals.{refuse, none, gate, orElse, badRow}
 use Rattle.card.specs.Layout.{objectTags}
 use Rattle.card.specs.Rules.{Entry, entries, objectRows, Fault, met, missing, length-out, byte-out, value-out, ofVerdict, fault, isZero, firstPresent}
 use Rattle.card.specs.Sums.{sumsRefusal}
-use Rattle.card.specs.Refusing.{rowRefusal, rowsRefusal, endsRefusal, templateRefusal, writeRefusal}
+use Rattle.card.specs.Refusing.{rowRefusal, rowsRefusal, endsRefusal, templateRefusal, numberRefusal, contentRefusal, editionRefusal, writeRefusal}
 use Rattle.card.specs.Writing.{recordRefusal}
 use Rattle.card.proofs.Chains.{or-keeps, gate-after}
-use Rattle.demands.specs.Demands.{LentEdition, WritingSays, no-row, of-row, of-length, of-byte}
+use Rattle.demands.specs.Demands.{LentEdition, WritingSays, no-row, of-row, of-length, of-byte, unnumbered}
 
 -- of a link: it refuses nothing, or says what a writing may say
 abbrev Says : Edition → Content → Refusal → Type 0
@@ -42,10 +42,11 @@ Says e c x = (x .number ≡ 0 → ⊥) → WritingSays e c x
 nothing : (e : Edition) (c : Content) → Says e c none
 nothing e c = λ some. absurd (some refl)
 
-bad-says : (e : Edition) (c : Content) (f : Formed) → LentEdition e → formedFrom 0 (e .rows) ≡ f → Says e c (badRow f)
+bad-says : (e : Edition) (c : Content) (f : Formed) → LentEdition e → formedOf e ≡ f → Says e c (badRow f)
 unfolding badRow among
 bad-says e c Well n q = nothing e c
-bad-says e c (Bad k) n q = λ some. of-row 2 k refl (omega (arith, bad-below 0 (e .rows) k q))
+bad-says e c (Bad k) n q = λ some. of-row 2 k refl (omega (arith, bad-below 0 (e .rows) k (bad-rows e k q)))
+bad-says e c Unnumbered n q = λ some. unnumbered (number-zero e q)
 
 -- ---- the rows: the refusal is that of row j
 abbrev noEntry : Entry
@@ -142,17 +143,23 @@ first-most k vs h n =
     let l = length-map vs length in
     omega arith
 
-pub writing-says : (e : Edition) (c : Content) (n : ℕ) → LentEdition e → length (c .values) ≡ 16 → Says e c (writeRefusal e c n)
-unfolding writeRefusal endsRefusal sumsRefusal templateRefusal among
-writing-says e c n l many =
-    or-keeps (Says e c) _ _ (gate-after (Says e c) _ _ _ (λ z some. no-row 20 refl) (λ z. nothing e c))
-    (or-keeps (Says e c) _ _ (bad-says e c _ l refl)
-    (or-keeps (Says e c) _ _ (gate-after (Says e c) _ _ _ (λ z some. no-row 3 refl) (λ z. gate-after (Says e c) _ _ _ (λ z some. no-row 3 refl) (λ z. nothing e c)))
+content-says : (e : Edition) (c : Content) → length (c .values) ≡ 16 → Says e c (contentRefusal e c)
+unfolding contentRefusal endsRefusal sumsRefusal templateRefusal among
+content-says e c many =
+    or-keeps (Says e c) _ _ (gate-after (Says e c) _ _ _ (λ z some. no-row 3 refl) (λ z. gate-after (Says e c) _ _ _ (λ z some. no-row 3 refl) (λ z. nothing e c)))
     (or-keeps (Says e c) _ _ (rows-says e c)
     (or-keeps (Says e c) _ _
     (gate-after (Says e c) _ _ _ (λ z some. of-row 11 _ refl (omega (arith, first-most 6 (c .values) (omega arith) many))) (λ z.
     gate-after (Says e c) _ _ _ (λ z some. of-row 11 _ refl (omega (arith, first-most 12 (c .values) (omega arith) many))) (λ z. nothing e c)))
-    (gate-after (Says e c) _ _ _ (λ z some. no-row 4 refl) (λ z. nothing e c))))))
+    (gate-after (Says e c) _ _ _ (λ z some. no-row 4 refl) (λ z. nothing e c))))
+
+pub writing-says : (e : Edition) (number : ℕ) (c : Content) (n : ℕ) → LentEdition e → length (c .values) ≡ 16 → Says e c (writeRefusal e number c n)
+unfolding writeRefusal numberRefusal among
+writing-says e number c n l many =
+    or-keeps (Says e c) _ _ (gate-after (Says e c) _ _ _ (λ z some. no-row 20 refl) (λ z. nothing e c))
+    (or-keeps (Says e c) _ _ (bad-says e c _ l refl)
+    (or-keeps (Says e c) _ _ (gate-after (Says e c) _ _ _ (λ z some. no-row 22 refl) (λ z. nothing e c))
+    (content-says e c many)))
 
 -- ---- a refusal of number 0 is none
 abbrev ZeroNone : Refusal → Type 0
@@ -162,6 +169,7 @@ bad-zero : (f : Formed) → ZeroNone (badRow f)
 unfolding badRow
 bad-zero Well = λ z. refl
 bad-zero (Bad k) = λ z. absurd (omega arith)
+bad-zero Unnumbered = λ z. absurd (omega arith)
 
 row-zero : (r : Entry) (f : Fault) → ZeroNone (rowRefusal r f)
 unfolding rowRefusal
@@ -180,18 +188,28 @@ rows-zero (r ∷ rs) (v ∷ vs) = or-keeps ZeroNone _ _ (row-zero r (fault (r .r
 some-zero : (number tag : ℕ) → (number ≡ 0 → ⊥) → ZeroNone (refuse number 0 tag)
 some-zero number tag h = λ z. absurd (h z)
 
-pub zero-is-none : (e : Edition) (c : Content) (n : ℕ) → writeRefusal e c n .number ≡ 0 → writeRefusal e c n ≡ none
-unfolding writeRefusal endsRefusal sumsRefusal templateRefusal
-zero-is-none e c n =
-    or-keeps ZeroNone _ _ (link _ _ _ (some-zero 20 0 (omega arith)) (λ z. refl))
-    (or-keeps ZeroNone _ _ (bad-zero _)
-    (or-keeps ZeroNone _ _ (link _ _ _ (some-zero 3 0 (omega arith)) (link _ _ _ (some-zero 3 0 (omega arith)) (λ z. refl)))
+link : (q : Bool) (x w : Refusal) → ZeroNone x → ZeroNone w → ZeroNone (gate q x w)
+link q x w a b = gate-after ZeroNone q x w (λ e. a) (λ e. b)
+
+content-zero : (e : Edition) (c : Content) → ZeroNone (contentRefusal e c)
+unfolding contentRefusal endsRefusal sumsRefusal templateRefusal
+content-zero e c =
+    or-keeps ZeroNone _ _ (link _ _ _ (some-zero 3 0 (omega arith)) (link _ _ _ (some-zero 3 0 (omega arith)) (λ z. refl)))
     (or-keeps ZeroNone _ _ (rows-zero (objectRows e) (c .values))
     (or-keeps ZeroNone _ _ (link _ _ _ (some-zero 11 _ (omega arith)) (link _ _ _ (some-zero 11 _ (omega arith)) (λ z. refl)))
-    (link _ _ _ (some-zero 4 0 (omega arith)) (λ z. refl))))))
-  where
-    link : (q : Bool) (x w : Refusal) → ZeroNone x → ZeroNone w → ZeroNone (gate q x w)
-    link q x w a b = gate-after ZeroNone q x w (λ e. a) (λ e. b)
+    (link _ _ _ (some-zero 4 0 (omega arith)) (λ z. refl))))
+
+pub edition-zero : (e : Edition) (c : Content) → editionRefusal e c .number ≡ 0 → editionRefusal e c ≡ none
+unfolding editionRefusal
+edition-zero e c = or-keeps ZeroNone _ _ (bad-zero _) (content-zero e c)
+
+pub zero-is-none : (e : Edition) (number : ℕ) (c : Content) (n : ℕ) → writeRefusal e number c n .number ≡ 0 → writeRefusal e number c n ≡ none
+unfolding writeRefusal numberRefusal
+zero-is-none e number c n =
+    or-keeps ZeroNone _ _ (link _ _ _ (some-zero 20 0 (omega arith)) (λ z. refl))
+    (or-keeps ZeroNone _ _ (bad-zero _)
+    (or-keeps ZeroNone _ _ (link _ _ _ (some-zero 22 0 (omega arith)) (λ z. refl))
+    (content-zero e c)))
 
 -- ---- an index fits a byte where the lengths of the record are bytes
 claimed : (o : Object) → o .length ≤ 255 → length (valueOf o) ≤ 255
@@ -204,6 +222,7 @@ written-place e c x h (no-row number a) = omega arith
 written-place e c x h (of-row number k a l) = omega arith
 written-place e c x h (of-length k l) = omega arith
 written-place e c x h (of-byte i k l b) = omega (arith, h k)
+written-place e c x h (unnumbered z) = omega arith
 
 abbrev noObject : Object
 noObject = record { length = 0; bytes = [] }
@@ -216,5 +235,5 @@ every-written-place e r b n many h = go (eqb (recordRefusal e r b .number) 0) re
     short k = rw (List·getD-map valueOf (r .objects) k noObject) (claimed (getD (r .objects) k noObject) (h k))
 
     go : (q : Bool) → eqb (recordRefusal e r b .number) 0 ≡ q → recordRefusal e r b .place < 256
-    go true z = rw (zero-is-none e (contentOf r) (length b) (eqb-true _ _ z)) (omega arith)
-    go false z = written-place e (contentOf r) _ short (writing-says e (contentOf r) (length b) n (length-map (r .objects) valueOf ∙ many) (eqb-false _ _ z))
+    go true z = rw (zero-is-none e (r .number) (contentOf r) (length b) (eqb-true _ _ z)) (omega arith)
+    go false z = written-place e (contentOf r) _ short (writing-says e (r .number) (contentOf r) (length b) n (length-map (r .objects) valueOf ∙ many) (eqb-false _ _ z))

@@ -10,7 +10,7 @@ use Rattle.edition.specs.declared.Formed.the-variants.{Well}
 use Rattle.rules.specs.declared.values.Verdict.the-variants.{Takes}
 use Rattle.edition.specs.Sets.{permitted}
 use Rattle.rules.specs.Values.{judged}
-use Rattle.edition.specs.Rows.{formedFrom}
+use Rattle.edition.specs.Rows.{formedOf}
 use Rattle.card.specs.declared.Refusal.{Refusal}
 use Rattle.card.specs.Layout.{object}
 use Rattle.card.specs.Rules.{Entry, RowMet, fault}
@@ -28,8 +28,8 @@ pub data NestedRows : List Row → List Row → Type 0 where
 
 -- both are well formed, and each row is within its own
 pub record Nested (i o : Edition) : Type 0 where
-  pub inner : formedFrom 0 (i .rows) ≡ Well
-  pub outer : formedFrom 0 (o .rows) ≡ Well
+  pub inner : formedOf i ≡ Well
+  pub outer : formedOf o ≡ Well
   pub rows : NestedRows (i .rows) (o .rows)
 
 -- x is what the first row in card order that is not met is refused with, where the objects of the values stand from `at` on

@@ -43,6 +43,8 @@ use Rattle.objects.proofs.list_objects.Reads as list-objects
 use Rattle.reader.proofs.places.Reads as places
 use Rattle.reader.proofs.read.Reads as read
 use Rattle.checks.proofs.check.Reads as check
+use Rattle.checks.proofs.check_content.Reads as check-content
+use Rattle.renumber.proofs.renumber.Reads as renumber
 use Rattle.checks.proofs.objects_size.Reads as objects-size
 use Rattle.writer.proofs.write.Reads as write
 use Rattle.listing.proofs.list.Reads as list
@@ -53,6 +55,7 @@ use Rattle.wire.proofs.write_record.Reads as write-record
 use Rattle.wire.proofs.pack.Reads as pack
 use Rattle.kvk.proofs.kvk_read.Reads as kvk-read
 use Rattle.kvk.proofs.kvk_write.Reads as kvk-write
+use Rattle.kvk.proofs.kvk_renumber.Reads as kvk-renumber
 use Rattle.kvk.proofs.kvk_edition.Reads as kvk-edition
 use Rattle.kvk.proofs.kvk_length.Reads as kvk-length
 
@@ -139,6 +142,12 @@ read-once κs a z y e f p q = p ∙ sym q
 pub check-once : (κs : _) (a : _) (z y : _) (e f : _) → check.Post κs a z e → check.Post κs a y f → z ≡ y
 check-once κs a z y e f p q = p ∙ sym q
 
+pub check-content-once : (κs : _) (a : _) (z y : _) (e f : _) → check-content.Post κs a z e → check-content.Post κs a y f → z ≡ y
+check-content-once κs a z y e f p q = p ∙ sym q
+
+pub renumber-once : (κs : _) (a : _) (z y : _) (e f : _) → renumber.Post κs a z e → renumber.Post κs a y f → z ≡ y
+renumber-once κs a z y e f p q = p ∙ sym q
+
 pub objects-size-once : (κs : _) (a : _) (z y : _) (e f : _) → objects-size.Post κs a z e → objects-size.Post κs a y f → z ≡ y
 objects-size-once κs a z y e f p q = p .1 ∙ sym (q .1)
 
@@ -215,6 +224,12 @@ kvk-write-once κs a z y e f p q = p .0 ∙ sym (q .0)
 
 pub kvk-write-room-once : (κs : _) (a : _) (z y : _) (e f : _) → kvk-write.Post κs a z e → kvk-write.Post κs a y f → now (e .1 .1 .0) ≡ now (f .1 .1 .0)
 kvk-write-room-once κs a z y e f p q = p .1 ∙ sym (q .1)
+
+pub kvk-renumber-once : (κs : _) (a : _) (z y : _) (e f : _) → kvk-renumber.Post κs a z e → kvk-renumber.Post κs a y f → z ≡ y
+kvk-renumber-once κs a z y e f p q = p .0 ∙ sym (q .0)
+
+pub kvk-renumber-room-once : (κs : _) (a : _) (z y : _) (e f : _) → kvk-renumber.Post κs a z e → kvk-renumber.Post κs a y f → now (e .1 .0) ≡ now (f .1 .0)
+kvk-renumber-room-once κs a z y e f p q = p .1 ∙ sym (q .1)
 
 pub kvk-edition-once : (κs : _) (a : _) (z y : _) (e f : _) → kvk-edition.Post κs a z e → kvk-edition.Post κs a y f → z ≡ y
 kvk-edition-once κs a z y e f p q = p .0 ∙ sym (q .0)

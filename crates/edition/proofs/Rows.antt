@@ -3,8 +3,8 @@ use Prim.Native.Nat.{ℕ, zero, suc, _+_, _/_, _%_, _^_, _≤_, _<_}
 use native.Mathlib.Nat.{add-zero, zero-add, add-suc, suc-add, le-of-suc-le-suc, not-suc-le-zero, lt-of-lt-of-le}
 use native.Mathlib.Numerals.{add-one}
 use native.Mathlib.Omega.{arith}
-use borrow.Author.Tests.{eqb-true, ltb-true, leb-true, leb-false, ne-eqb}
-use mathlib.Core.Path.{_≡_, refl, ap}
+use borrow.Author.Tests.{eqb-true, ltb-true, leb-true, leb-false, eq-eqb, ne-eqb}
+use mathlib.Core.Path.{_≡_, refl, sym, ap}
 use mathlib.Core.Bool.{Bool, true, false, cond, _&&_}
 use mathlib.Core.List.{List, [], _∷_}
 use lib.Dec.{eqb, leb, ltb}
@@ -14,11 +14,12 @@ use lib.Seq.{drop-cons, drop-length}
 use Rattle.rules.specs.declared.Rule.{Rule}
 use Rattle.rules.specs.declared.Rule.the-variants.{Digits, Text, Lead, Code, Birth, Expiry, Raw, NotD}
 use Rattle.edition.specs.declared.Row.{Row}
+use Rattle.edition.specs.declared.Edition.{Edition}
 use Rattle.edition.specs.declared.Formed.{Formed}
-use Rattle.edition.specs.declared.Formed.the-variants.{Well, Bad}
+use Rattle.edition.specs.declared.Formed.the-variants.{Well, Bad, Unnumbered}
 use Rattle.ground.specs.Lists.{among, distinct}
 use Rattle.edition.specs.Sets.{permitted, only}
-use Rattle.edition.specs.Rows.{tags, noRow, setFormed, byRule, rowFormed, formedFrom, ToldFormed, formedTold}
+use Rattle.edition.specs.Rows.{tags, tagOf, noRow, setFormed, byRule, rowFormed, formedFrom, andNumber, formedOf, ToldFormed, formedTold}
 use Rattle.ground.proofs.Lists.{true-false, and-left, and-right}
 use Rattle.edition.proofs.Sets.{beyond}
 
@@ -27,15 +28,24 @@ pub tags-distinct : distinct tags ≡ true
 unfolding distinct among tags
 tags-distinct = refl
 
--- no two answers are told alike
+-- no two answers are formedTold alike
 pub told-apart : (a b : Formed) → formedTold a ≡ formedTold b → a ≡ b
-told-apart a b e = go a b (ap (λ (t : ToldFormed). t .number) e) (ap (λ (t : ToldFormed). t .row) e)
+unfolding tags
+told-apart a b e = go a b (ap (λ (t : ToldFormed). t .number) e) (ap (λ (t : ToldFormed). t .row) e) (ap (λ (t : ToldFormed). t .tag) e)
   where
-    go : (a b : Formed) → formedTold a .number ≡ formedTold b .number → formedTold a .row ≡ formedTold b .row → a ≡ b
-    go Well Well n r = refl
-    go Well (Bad k) n r = absurd (omega arith)
-    go (Bad k) Well n r = absurd (omega arith)
-    go (Bad k) (Bad j) n r = ap Bad r
+    tagged : (k : ℕ) → k ≡ 0 → tagOf k ≡ 0 → ⊥
+    tagged k r t = let z : _≡_ {A = ℕ} 0x80 0 = rw r at t in omega arith
+
+    go : (a b : Formed) → formedTold a .number ≡ formedTold b .number → formedTold a .row ≡ formedTold b .row → formedTold a .tag ≡ formedTold b .tag → a ≡ b
+    go Well Well n r t = refl
+    go Well (Bad k) n r t = absurd (omega arith)
+    go Well Unnumbered n r t = absurd (omega arith)
+    go (Bad k) Well n r t = absurd (omega arith)
+    go (Bad k) (Bad j) n r t = ap Bad r
+    go (Bad k) Unnumbered n r t = absurd (tagged k r t)
+    go Unnumbered Well n r t = absurd (omega arith)
+    go Unnumbered (Bad k) n r t = absurd (tagged k (sym r) (sym t))
+    go Unnumbered Unnumbered n r t = refl
 
 module _ (rs : List Row) (i : ℕ) where
   pub formed-pass : i < length rs → rowFormed (eqb i 16) (getD rs i noRow) ≡ true → formedFrom (i + 1) (drop (i + 1) rs) ≡ formedFrom i (drop i rs)
@@ -59,6 +69,72 @@ bad-below k (r ∷ rs) j e = go (bad-below (suc k) rs j) (rowFormed (eqb k 16) r
     go : (formedFrom (suc k) rs ≡ Bad j → j < suc k + length rs) → (q : Bool) → cond q (formedFrom (suc k) rs) (Bad k) ≡ Bad j → j < k + suc (length rs)
     go ih true h = omega (arith, ih h)
     go ih false h = let same : k ≡ j = cc in omega arith
+
+-- ---- a well-formed edition: its rows, and its number
+rows-in : (number : ℕ) (f : Formed) → andNumber number f ≡ Well → (f ≡ Well) × (eqb number 0 ≡ false)
+rows-in number Well e = (refl, go (eqb number 0) e)
+  where
+    go : (q : Bool) → cond q Unnumbered Well ≡ Well → q ≡ false
+    go true e = cc
+    go false e = refl
+rows-in number (Bad k) e = (cc, cc)
+rows-in number Unnumbered e = (cc, cc)
+
+pub formed-rows : (e : Edition) → formedOf e ≡ Well → formedFrom 0 (e .rows) ≡ Well
+unfolding formedOf
+formed-rows e h = rows-in (e .number) (formedFrom 0 (e .rows)) h .0
+
+pub formed-number : (e : Edition) → formedOf e ≡ Well → eqb (e .number) 0 ≡ false
+unfolding formedOf
+formed-number e h = rows-in (e .number) (formedFrom 0 (e .rows)) h .1
+
+-- that its number is 0 is told only of an edition whose rows are right
+never-unnumbered : (k : ℕ) (rs : List Row) → formedFrom k rs ≡ Unnumbered → ⊥
+unfolding formedFrom
+never-unnumbered k [] e = let z : _≡_ {A = ℕ} 0 1 = cc in omega arith
+never-unnumbered k (r ∷ rs) e = go (never-unnumbered (suc k) rs) (rowFormed (eqb k 16) r) e
+  where
+    go : (formedFrom (suc k) rs ≡ Unnumbered → ⊥) → (q : Bool) → cond q (formedFrom (suc k) rs) (Bad k) ≡ Unnumbered → ⊥
+    go ih true h = ih h
+    go ih false h = let z : _≡_ {A = ℕ} 0 1 = cc in omega arith
+
+bad-in : (number : ℕ) (f : Formed) (k : ℕ) → andNumber number f ≡ Bad k → f ≡ Bad k
+bad-in number Well k e = go (eqb number 0) e
+  where
+    go : (q : Bool) → cond q Unnumbered Well ≡ Bad k → Well ≡ Bad k
+    go true e = cc
+    go false e = e
+bad-in number (Bad j) k e = e
+bad-in number Unnumbered k e = e
+
+zero-in : (number : ℕ) (f : Formed) → (f ≡ Unnumbered → ⊥) → andNumber number f ≡ Unnumbered → number ≡ 0
+zero-in number Well h e = go (eqb number 0) refl e
+  where
+    go : (q : Bool) → eqb number 0 ≡ q → cond q Unnumbered Well ≡ Unnumbered → number ≡ 0
+    go true p e = eqb-true number 0 p
+    go false p e = absurd (let z : _≡_ {A = ℕ} 0 1 = cc in omega arith)
+zero-in number (Bad k) h e = absurd (let z : _≡_ {A = ℕ} 0 1 = cc in omega arith)
+zero-in number Unnumbered h e = absurd (h refl)
+
+pub bad-rows : (e : Edition) (k : ℕ) → formedOf e ≡ Bad k → formedFrom 0 (e .rows) ≡ Bad k
+unfolding formedOf
+bad-rows e k h = bad-in (e .number) (formedFrom 0 (e .rows)) k h
+
+pub number-zero : (e : Edition) → formedOf e ≡ Unnumbered → e .number ≡ 0
+unfolding formedOf
+number-zero e h = zero-in (e .number) (formedFrom 0 (e .rows)) (never-unnumbered 0 (e .rows)) h
+
+pub bad-formed : (e : Edition) (k : ℕ) → formedFrom 0 (e .rows) ≡ Bad k → formedOf e ≡ Bad k
+unfolding formedOf
+bad-formed e k h = rw h
+
+pub unnumbered : (e : Edition) → formedFrom 0 (e .rows) ≡ Well → e .number ≡ 0 → formedOf e ≡ Unnumbered
+unfolding formedOf
+unnumbered e h z = rw (h, eq-eqb (e .number) 0 z)
+
+pub well-formed : (e : Edition) → formedFrom 0 (e .rows) ≡ Well → (e .number ≡ 0 → ⊥) → formedOf e ≡ Well
+unfolding formedOf
+well-formed e h z = rw (h, ne-eqb (e .number) 0 z)
 
 -- ---- the rows of a well-formed table
 formed-in : (q : Bool) (f : Formed) (k : ℕ) → cond q f (Bad k) ≡ Well → (q ≡ true) × (f ≡ Well)

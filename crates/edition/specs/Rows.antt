@@ -7,8 +7,9 @@ use lib.ListN.{getD}
 use Rattle.rules.specs.declared.Rule.{Rule}
 use Rattle.rules.specs.declared.Rule.the-variants.{Digits, Text, Lead, Code, Birth, Expiry, Raw, NotD}
 use Rattle.edition.specs.declared.Row.{Row}
+use Rattle.edition.specs.declared.Edition.{Edition}
 use Rattle.edition.specs.declared.Formed.{Formed}
-use Rattle.edition.specs.declared.Formed.the-variants.{Well, Bad}
+use Rattle.edition.specs.declared.Formed.the-variants.{Well, Bad, Unnumbered}
 use Rattle.edition.specs.Sets.{only}
 
 -- the tags in card order, '8E' last
@@ -49,7 +50,16 @@ unfoldable pub formedFrom : ℕ → List Row → Formed
 formedFrom k [] = Well
 formedFrom k (r ∷ rs) = cond (rowFormed (eqb k 16) r) (formedFrom (suc k) rs) (Bad k)
 
--- the answer in the document's numbers: 2 with the tag of the first bad row
+-- an edition numbered 0 is not well formed, which is told only if all its rows are right
+abbrev pub andNumber : ℕ → Formed → Formed
+andNumber number Well = cond (eqb number 0) Unnumbered Well
+andNumber number (Bad k) = Bad k
+andNumber number Unnumbered = Unnumbered
+
+unfoldable pub formedOf : Edition → Formed
+formedOf e = andNumber (e .number) (formedFrom 0 (e .rows))
+
+-- the answer in the document's numbers: 2 with the tag of the first bad row; tag 0 for the number
 pub record ToldFormed : Type 0 where
   pub number : ℕ
   pub row : ℕ
@@ -58,3 +68,4 @@ pub record ToldFormed : Type 0 where
 abbrev pub formedTold : Formed → ToldFormed
 formedTold Well = record { number = 0; row = 0; tag = 0 }
 formedTold (Bad k) = record { number = 2; row = k; tag = tagOf k }
+formedTold Unnumbered = record { number = 2; row = 0; tag = 0 }

@@ -1,4 +1,4 @@
--- The two shipped editions, as the two columns of the document's table.
+-- The two shipped editions, as the two columns of the document's table; terminal has the number 1, issue 2.
 use Prim.Native.Nat.{ℕ, _+_}
 use mathlib.Core.Bool.{true, false}
 use mathlib.Core.List.{List, [], _∷_, map}
@@ -48,8 +48,8 @@ table =
 
 unfoldable pub terminal : Edition
 unfolding table
-terminal = record { rows = map (λ l. l .terminal) table }
+terminal = record { rows = map (λ l. l .terminal) table; number = 1 }
 
 unfoldable pub issue : Edition
 unfolding table
-issue = record { rows = map (λ l. l .issue) table }
+issue = record { rows = map (λ l. l .issue) table; number = 2 }

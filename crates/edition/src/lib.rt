@@ -10,7 +10,7 @@ pub use lengths::shortest;
 use rules::Rule;
 pub use tags::tag_of;
 ghost use mathlib.Core.Path.{_≡_};
-ghost use Rattle.edition.specs.Rows.{byRule, rowFormed, formedFrom, formedTold};
+ghost use Rattle.edition.specs.Rows.{byRule, rowFormed, formedOf, formedTold};
 ghost use Rattle.edition.specs.Tables.{terminal, issue};
 
 // The bit n of lengths is set where the length n is permitted.
@@ -20,14 +20,17 @@ pub struct Row {
     pub lengths: u32,
 }
 
+// The number is 1 to 255; every record carries that of the edition that it was read under.
 pub struct Edition {
     pub rows: [Row; 17],
+    pub number: u8,
 }
 
-// Whether an edition is well formed, or the number of its first row that is not.
+// Whether an edition is well formed, or its first row that is not; that its number is 0 is told if all rows are right.
 pub enum Formed {
     Well,
     Bad(usize),
+    Unnumbered,
 }
 
 const FROM_1_TO_3: u32 = (1 << 4) - (1 << 1);
@@ -158,6 +161,7 @@ impl Edition {
             },
             CHECKSUM,
         ],
+        number: 1,
     };
 
     pub const ISSUE: Edition = Edition {
@@ -208,6 +212,7 @@ impl Edition {
             },
             CHECKSUM,
         ],
+        number: 2,
     };
 
     pub fn terminal() -> Edition
@@ -222,9 +227,9 @@ impl Edition {
         Edition::ISSUE
     }
 
-    // Whether the edition is well formed, or its first bad row in card order.
+    // Whether the edition is well formed, or its first bad row in card order, or else that it has no number.
     pub fn formed(self) -> Formed
-        ensures { λ r. ⌜ formedTold r ≡ formedTold (formedFrom 0 (self .rows)) ⌝ }
+        ensures { λ r. ⌜ formedTold r ≡ formedTold (formedOf self) ⌝ }
     {
         let mut i: usize = 0;
         while i < 17 {
@@ -233,6 +238,9 @@ impl Edition {
                 return Formed::Bad(i);
             }
             i += 1;
+        }
+        if self.number == 0 {
+            return Formed::Unnumbered;
         }
         Formed::Well
     }

@@ -3,9 +3,9 @@ use Prim.Native.Nat.{ℕ, zero, suc, _+_, _-_, _*_, _≤_, _<_}
 use native.Mathlib.Nat.{zero-mul, suc-mul, add-comm, add-sub-cancel-left}
 use native.Mathlib.Numerals.{add-one}
 use native.Mathlib.Omega.{arith}
-use mathlib.Core.Path.{_≡_, refl, sym, ap, _∙_}
-use mathlib.Core.List.{List, [], _∷_, _++_, map, map-append}
-use lib.ListN.{length, getD, take, drop, set, length-drop, drop-of-length-le}
+use mathlib.Core.Path.{_≡_, refl, sym, ap, ap₂, _∙_}
+use mathlib.Core.List.{List, [], _∷_, _++_, append-assoc, map, map-append}
+use lib.ListN.{length, length-append, getD, take, drop, set, length-drop, drop-of-length-le}
 use lib.Seq.{take-suc-set, take-all, take-at, drop-at, drop-cons, drop-drop, length-take-le}
 use Rattle.ground.specs.Pieces.{pieces, joined}
 
@@ -50,8 +50,16 @@ pub data Each {A : Type 0} (f : A → List ℕ) (size : ℕ) : List A → Type 0
   none-left : Each f size []
   one-more : {x : A} {xs : List A} → length (f x) ≡ size → Each f size xs → Each f size (x ∷ xs)
 
--- where g undoes f, it makes the elements of the pieces again
-pub pieces-back : {A : Type 0} (f : A → List ℕ) (g : List ℕ → A) (size : ℕ) → ((x : A) → g (f x) ≡ x) → {xs : List A} → Each f size xs → map g (pieces size (length xs) (joined f xs)) ≡ xs
+-- where g undoes f, it makes the elements of the pieces again, whatever stands behind them
+pub pieces-back : {A : Type 0} (f : A → List ℕ) (g : List ℕ → A) (size : ℕ) → ((x : A) → g (f x) ≡ x) → {xs : List A} → Each f size xs
+    → (rest : List ℕ) → map g (pieces size (length xs) (joined f xs ++ rest)) ≡ xs
 unfolding pieces joined
-pieces-back f g size undo none-left = refl
-pieces-back f g size undo (one-more {x} {xs} e es) = rw (take-at (f x) (joined f xs) size e, drop-at (f x) (joined f xs) size e, undo, pieces-back f g size undo es)
+pieces-back f g size undo none-left rest = refl
+pieces-back f g size undo (one-more {x} {xs} e es) rest =
+    rw (append-assoc (f x) (joined f xs) rest, take-at (f x) (joined f xs ++ rest) size e, drop-at (f x) (joined f xs ++ rest) size e, undo, pieces-back f g size undo es rest)
+
+-- how many bytes they have
+pub joined-length : {A : Type 0} (f : A → List ℕ) (size : ℕ) {xs : List A} → Each f size xs → length (joined f xs) ≡ length xs * size
+unfolding joined
+joined-length f size none-left = sym (zero-mul size)
+joined-length f size (one-more {x} {xs} e es) = length-append (f x) (joined f xs) ∙ ap₂ (λ (a b : ℕ). a + b) e (joined-length f size es) ∙ sym (suc-mul (length xs) size ∙ add-comm _ _)

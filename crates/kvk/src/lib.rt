@@ -2,12 +2,14 @@
 // Any table, image, record and room may be lent, of whatever size: what has not its size is refused with a number.
 // The number is told even where the room is left: 20 for the room comes before all that is amiss with the card.
 mod foreign;
+mod renumbering;
 
 use card::Reading;
 use card::Record;
 use card::Refusal;
 use edition::Edition;
 pub use foreign::kvk_length;
+pub use renumbering::kvk_renumber;
 ghost use mathlib.Core.Path.{_≡_};
 ghost use mathlib.Core.Bool.{cond};
 ghost use lib.Dec.{eqb};
@@ -32,19 +34,19 @@ fn reading_of(table: &[u8], image: &[u8]) -> Reading
     if image.len() != 256 {
         return refused_reading(1);
     }
-    if table.len() != 102 {
+    if table.len() != 103 {
         return refused_reading(2);
     }
     reader::read(wire::edition_of(table), image)
 }
 
-// Reads an image into a record of 478 bytes, under a table of 102 bytes.
+// Reads an image into a record of 479 bytes, under a table of 103 bytes.
 #[no_mangle]
 pub extern "C" fn kvk_read(table: &[u8], image: &[u8], room: &mut [u8]) -> u64
     ensures { λ r. ⌜ r ≡ packed (kvkRead (now (table .entry)) (now (image .entry)) (now (room .entry))) ⌝ }
     ensures { λ _. ⌜ now (room .exit) ≡ kvkReadRoom (now (table .entry)) (now (image .entry)) (now (room .entry)) ⌝ }
 {
-    if room.len() != 478 {
+    if room.len() != 479 {
         return wire::pack(Refusal::new(20, 0, 0));
     }
     let reading = reading_of(table, image);
@@ -56,19 +58,19 @@ fn written(table: &[u8], bytes: &[u8], image: &mut [u8]) -> Refusal
     ensures { λ r. ⌜ r ≡ kvkWrite (now (table .entry)) (now (bytes .entry)) (now (image .entry)) ⌝ }
     ensures { λ _. ⌜ now (image .exit) ≡ kvkWriteImage (now (table .entry)) (now (bytes .entry)) (now (image .entry)) ⌝ }
 {
-    if bytes.len() != 478 {
+    if bytes.len() != 479 {
         return Refusal::new(20, 0, 0);
     }
     if image.len() != 256 {
         return Refusal::new(20, 0, 0);
     }
-    if table.len() != 102 {
+    if table.len() != 103 {
         return Refusal::new(2, 0, 0);
     }
     writer::write(wire::edition_of(table), wire::record_of(bytes), image)
 }
 
-// Writes a record of 478 bytes into an image, under a table of 102 bytes.
+// Writes a record of 479 bytes into an image, under a table of 103 bytes.
 #[no_mangle]
 pub extern "C" fn kvk_write(table: &[u8], bytes: &[u8], image: &mut [u8]) -> u64
     ensures { λ r. ⌜ r ≡ packed (kvkWrite (now (table .entry)) (now (bytes .entry)) (now (image .entry))) ⌝ }
@@ -87,13 +89,13 @@ fn shipped(which: u64) -> Edition
     }
 }
 
-// Fills a room of 102 bytes with the table of a shipped edition: 1 terminal, 2 issue.
+// Fills a room of 103 bytes with the table of a shipped edition: 1 terminal, 2 issue.
 #[no_mangle]
 pub extern "C" fn kvk_edition(which: u64, room: &mut [u8]) -> u64
     ensures { λ r. ⌜ r ≡ packed (kvkEdition which (now (room .entry))) ⌝ }
     ensures { λ _. ⌜ now (room .exit) ≡ kvkEditionRoom which (now (room .entry)) ⌝ }
 {
-    if room.len() != 102 {
+    if room.len() != 103 {
         return wire::pack(Refusal::new(20, 0, 0));
     }
     let known = (which == 1) | (which == 2);

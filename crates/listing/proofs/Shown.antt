@@ -19,14 +19,14 @@ shown-values : (vs : List (List ℕ)) → map shown (map objectOf vs) ≡ map va
 shown-values [] = refl
 shown-values (v ∷ vs) = rw (shown-value v, shown-values vs)
 
-shown-record : (c : Content) → shownOf (recordOf c) ≡ contentOf (recordOf c) .values
+shown-record : (number : ℕ) (c : Content) → shownOf (recordOf number c) ≡ contentOf (recordOf number c) .values
 unfolding recordOf contentOf
-shown-record c = shown-values (c .values)
+shown-record number c = shown-values (c .values)
 
-shown-answer : (a : Answer) → shownOf (answerOf a .content) ≡ contentOf (answerOf a .content) .values
+shown-answer : (number : ℕ) (a : Answer) → shownOf (answerOf number a .content) ≡ contentOf (answerOf number a .content) .values
 unfolding answerOf contentOf valueOf emptyRecord
-shown-answer (accepted c) = shown-record c
-shown-answer (refused x) = refl
+shown-answer number (accepted c) = shown-record number c
+shown-answer number (refused x) = refl
 
 pub listed : (e : Edition) (s : List ℕ) (r : Reading) → r ≡ reading e s → listing (r .refusal) (shownOf (r .content)) ≡ listingOf (reading e s)
-listed e s r q = rw (q, shown-answer (answer e s))
+listed e s r q = rw (q, shown-answer (e .number) (answer e s))

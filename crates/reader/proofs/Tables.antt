@@ -10,7 +10,7 @@ use lib.ListN.{length, take, drop, length-drop}
 use lib.Seq.{length-take-le}
 use Rattle.edition.specs.declared.Edition.{Edition}
 use Rattle.edition.specs.declared.Formed.the-variants.{Well}
-use Rattle.edition.specs.Rows.{formedFrom}
+use Rattle.edition.specs.Rows.{formedOf}
 use Rattle.card.specs.declared.Refusal.{Refusal}
 use Rattle.card.specs.declared.Places.{Places}
 use Rattle.card.specs.Refusals.{none, orElse, badRow}
@@ -74,7 +74,7 @@ unfolding noPlaces
 settled-stop s x at vs h = ap (settled s) (placed-stop x at vs h) ∙ sym (settle-own s (noPlaces x) h)
 
 -- ---- the chain behind the front
-module _ (e : Edition) (s : List ℕ) (seventeen : length (e .rows) ≡ 17) (formed : formedFrom 0 (e .rows) ≡ Well) where
+module _ (e : Edition) (s : List ℕ) (seventeen : length (e .rows) ≡ 17) (formed : formedOf e ≡ Well) where
   abbrev vals : List (List ℕ)
   vals = take 16 (valuesIn (walkOf e s))
 
@@ -111,7 +111,7 @@ module _ (e : Edition) (s : List ℕ) (seventeen : length (e .rows) ≡ 17) (for
           settled-stop s table (startOf s) vals h ∙ sym (ap (λ (x : Refusal). placed x (startOf s) vals) (or-stop table (orElse sums (endRefusal s)) h) ∙ placed-stop table (startOf s) vals h)
 
 -- ---- the whole
-read-open : (e : Edition) (s : List ℕ) → readRefusal e s ≡ orElse (openRefusal (badRow (formedFrom 0 (e .rows))) s) (walkRefusal s (walkOf e s))
+read-open : (e : Edition) (s : List ℕ) → readRefusal e s ≡ orElse (openRefusal (badRow (formedOf e)) s) (walkRefusal s (walkOf e s))
 unfolding readRefusal openRefusal
 read-open e s = sym (or-assoc _ _ _ ∙ ap (orElse _) (or-assoc _ _ _))
 
@@ -119,11 +119,11 @@ places-are : (e : Edition) (s : List ℕ) → places e s ≡ placed (readRefusal
 unfolding answer contentAt
 places-are e s = places-by (startOf s) _ _
 
-pub places-open : (e : Edition) (s : List ℕ) → (openRefusal (badRow (formedFrom 0 (e .rows))) s .number ≡ 0 → ⊥) → noPlaces (openRefusal (badRow (formedFrom 0 (e .rows))) s) ≡ places e s
+pub places-open : (e : Edition) (s : List ℕ) → (openRefusal (badRow (formedOf e)) s .number ≡ 0 → ⊥) → noPlaces (openRefusal (badRow (formedOf e)) s) ≡ places e s
 unfolding placed
-places-open e s h = sym (places-are e s ∙ rw (read-open e s, or-stop (openRefusal (badRow (formedFrom 0 (e .rows))) s) (walkRefusal s (walkOf e s)) h, ne-eqb _ 0 h))
+places-open e s h = sym (places-are e s ∙ rw (read-open e s, or-stop (openRefusal (badRow (formedOf e)) s) (walkRefusal s (walkOf e s)) h, ne-eqb _ 0 h))
 
-pub places-passed : (e : Edition) (s : List ℕ) → length (e .rows) ≡ 17 → formedFrom 0 (e .rows) ≡ Well → openRefusal (badRow (formedFrom 0 (e .rows))) s .number ≡ 0
+pub places-passed : (e : Edition) (s : List ℕ) → length (e .rows) ≡ 17 → formedOf e ≡ Well → openRefusal (badRow (formedOf e)) s .number ≡ 0
     → settled s (tableOf (startOf s) (endOf s) (walkOf e s)) ≡ places e s
 places-passed e s n formed z =
     settled-is e s n formed ∙ sym (places-are e s ∙ ap (λ (x : Refusal). placed x (startOf s) (take 16 (valuesIn (walkOf e s)))) (read-open e s ∙ or-pass _ _ z))

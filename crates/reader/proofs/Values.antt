@@ -9,8 +9,8 @@ use lib.Seq.{take-append-seam, take-take, drop-drop, drop-append-add, ext-getD}
 use Rattle.edition.specs.declared.Row.{Row}
 use Rattle.edition.specs.declared.Edition.{Edition}
 use Rattle.edition.specs.declared.Formed.the-variants.{Well}
-use Rattle.edition.specs.Rows.{tags, formedFrom, noRow}
-use Rattle.edition.proofs.Rows.{formed-within, permits-most}
+use Rattle.edition.specs.Rows.{tags, formedOf, noRow}
+use Rattle.edition.proofs.Rows.{formed-rows, formed-within, permits-most}
 use Rattle.card.specs.declared.Refusal.{Refusal}
 use Rattle.card.specs.declared.Places.{Places}
 use Rattle.card.specs.Refusals.{none}
@@ -106,11 +106,11 @@ module _ (e : Edition) (s : List ℕ) (t : Through e s) where
       let low : k < 16 = omega (arith, starts-length (startOf s) vs 0 16) in
       value-at s st ls k many ∙ rw (start-is k low, length-is k) (value-back k low))
 
-  pub values-inside : formedFrom 0 (e .rows) ≡ Well → Inside s st ls
+  pub values-inside : formedOf e ≡ Well → Inside s st ls
   unfolding startAt
   values-inside formed = record {
     within = λ k h. rw (start-is k h, length-is k) (room k h (getD vs k []) refl);
-    short = λ k h. rw (length-is k) (met-short objectTags (e .rows) vs (λ i l. formed-within (e .rows) i formed l .small) (t .met) k);
+    short = λ k h. rw (length-is k) (met-short objectTags (e .rows) vs (λ i l. formed-within (e .rows) i (formed-rows e formed) l .small) (t .met) k);
   }
     where
       room : (k : ℕ) → k < 16 → (v : List ℕ) → getD vs k [] ≡ v → startAt (startOf s) vs k + length (getD vs k []) ≤ length s
@@ -131,12 +131,12 @@ pub reads-refused : (e : Edition) (s : List ℕ) (p : Places) → p ≡ places e
 unfolding answerOf placesOf placed noPlaces
 reads-refused e s p is h = go (answer e s) is
   where
-    go : (a : Answer) → p ≡ placesOf (startOf s) a → record { refusal = p .refusal; content = emptyRecord } ≡ answerOf a
+    go : (a : Answer) → p ≡ placesOf (startOf s) a → record { refusal = p .refusal; content = emptyRecord } ≡ answerOf (e .number) a
     go (accepted c) q = absurd (h (ap (λ (y : Places). y .refusal .number) q))
     go (refused x) q = rw (ap (λ (y : Places). y .refusal) q)
 
 pub record Given (e : Edition) (s : List ℕ) (p : Places) : Type 0 where
-  pub is : record { refusal = none; content = recordOf (contentAt s (valuesAt s (p .starts) (p .lengths))) } ≡ reading e s
+  pub is : record { refusal = none; content = recordOf (e .number) (contentAt s (valuesAt s (p .starts) (p .lengths))) } ≡ reading e s
   pub long : length s ≡ 256
   pub inside : Inside s (p .starts) (p .lengths)
 
@@ -156,8 +156,8 @@ reads-accepted e s p n is z = go (answer e s) refl is
         let back : valuesAt s (p .starts) (p .lengths) ≡ take 16 (valuesIn (walkOf e s)) = rw (st, ls) (values-back e s t ∙ sym (t .values)) in
         record {
           is =
-              ap (λ (v : List (List ℕ)). record { refusal = none; content = recordOf (contentAt s v) }) back
-              ∙ ap (λ (y : Content). record { refusal = none; content = recordOf y }) (r .1) ∙ sym (ap answerOf a);
+              ap (λ (v : List (List ℕ)). record { refusal = none; content = recordOf (e .number) (contentAt s v) }) back
+              ∙ ap (λ (y : Content). record { refusal = none; content = recordOf (e .number) y }) (r .1) ∙ sym (ap (answerOf (e .number)) a);
           long = b .size;
           inside = rw (st, ls) (values-inside e s t (b .formed));
         }

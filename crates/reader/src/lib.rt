@@ -51,7 +51,7 @@ pub fn places(edition: Edition, image: &[u8]) -> Places
     settle(image, end, table)
 }
 
-// Reads an image: its record, or the refusal and the empty record.
+// Reads an image: its record with the edition's number, or the refusal and the empty record.
 pub fn read(edition: Edition, image: &[u8]) -> Reading
     ensures { λ r. ⌜ r ≡ reading edition (now (image .entry)) ⌝ }
 {
@@ -67,6 +67,6 @@ pub fn read(edition: Edition, image: &[u8]) -> Reading
     let lengths = table.lengths;
     Reading {
         refusal: Refusal::none(),
-        content: copy_record(image, starts, lengths),
+        content: copy_record(image, starts, lengths, edition.number),
     }
 }

@@ -4,6 +4,7 @@
 mod batch;
 mod length;
 mod list;
+mod show;
 mod words;
 mod wrong;
 
@@ -21,6 +22,9 @@ fn run(name: &[u8]) -> u8
     }
     if ground::is_same(name, b"length") {
         return length::run();
+    }
+    if ground::is_same(name, b"show") {
+        return show::run();
     }
     words::misused(b"there is no such command")
 }

@@ -39,33 +39,34 @@ fn put_due(byte: u8) {
 }
 
 // The name of the object with this tag.
-fn put_name(tag: u8) {
+pub(crate) fn put_name(file: i32, tag: u8) {
     match tag {
-        0x80 => put(b"fund name"),
-        0x81 => put(b"fund number"),
-        0x8F => put(b"office code"),
-        0x82 => put(b"insured number"),
-        0x83 => put(b"status"),
-        0x90 => put(b"status addition"),
-        0x84 => put(b"title"),
-        0x85 => put(b"given name"),
-        0x86 => put(b"name prefix"),
-        0x87 => put(b"family name"),
-        0x88 => put(b"birth date"),
-        0x89 => put(b"street"),
-        0x8A => put(b"country"),
-        0x8B => put(b"postal code"),
-        0x8C => put(b"town"),
-        0x8D => put(b"validity"),
-        _ => put(b"checksum"),
+        0x80 => io::write_all(file, b"fund name"),
+        0x81 => io::write_all(file, b"fund number"),
+        0x8F => io::write_all(file, b"office code"),
+        0x82 => io::write_all(file, b"insured number"),
+        0x83 => io::write_all(file, b"status"),
+        0x90 => io::write_all(file, b"status addition"),
+        0x84 => io::write_all(file, b"title"),
+        0x85 => io::write_all(file, b"given name"),
+        0x86 => io::write_all(file, b"name prefix"),
+        0x87 => io::write_all(file, b"family name"),
+        0x88 => io::write_all(file, b"birth date"),
+        0x89 => io::write_all(file, b"street"),
+        0x8A => io::write_all(file, b"country"),
+        0x8B => io::write_all(file, b"postal code"),
+        0x8C => io::write_all(file, b"town"),
+        0x8D => io::write_all(file, b"validity"),
+        _ => io::write_all(file, b"checksum"),
     }
+    ;
 }
 
 fn put_object(tag: u8) {
     put(b"object ");
     put_byte(tag);
     put(b", ");
-    put_name(tag);
+    put_name(STDERR_FILENO, tag);
 }
 
 // 1

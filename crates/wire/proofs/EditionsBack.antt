@@ -1,7 +1,7 @@
 -- An edition comes back from its bytes. Assumes nothing.
 use Prim.Native.Nat.{ℕ, _/_, _%_, _^_}
 use native.Mathlib.Omega.{arith}
-use mathlib.Core.Path.{_≡_, refl, ap}
+use mathlib.Core.Path.{_≡_, refl, ap₂, _∙_}
 use mathlib.Core.Bool.{Bool, true, false, cond}
 use mathlib.Core.List.{List, [], _∷_}
 use lib.Dec.{eqb, leb}
@@ -10,8 +10,9 @@ use Rattle.rules.specs.declared.Rule.{Rule}
 use Rattle.rules.specs.declared.Rule.the-variants.{Digits, Text, Lead, Code, Birth, Expiry, Raw, NotD}
 use Rattle.edition.specs.declared.Row.{Row}
 use Rattle.edition.specs.declared.Edition.{Edition}
-use Rattle.ground.specs.Pieces.{fourBytes}
-use Rattle.ground.proofs.Pieces.{Each, none-left, one-more, pieces-back}
+use lib.Seq.{getD-at}
+use Rattle.ground.specs.Pieces.{fourBytes, joined}
+use Rattle.ground.proofs.Pieces.{Each, none-left, one-more, pieces-back, joined-length}
 use Rattle.wire.specs.Tables.{numberOf, ruleOf, rowFrom, editionFrom, rowBytes, tableBytes}
 
 four-back : (n : ℕ) → fourBytes (n / 2 ^ 24) (n / 2 ^ 16 % 256) (n / 2 ^ 8 % 256) (n % 256) ≡ n
@@ -42,4 +43,8 @@ rows-six (r ∷ rs) = one-more refl (rows-six rs)
 
 pub edition-back : (e : Edition) → length (e .rows) ≡ 17 → editionFrom (tableBytes e) ≡ e
 unfolding editionFrom tableBytes
-edition-back e n = ap (λ (rs : List Row). record { rows = rs }) (rw n at (pieces-back rowBytes rowFrom 6 row-back (rows-six (e .rows))))
+edition-back e n =
+    let long : length (joined rowBytes (e .rows)) ≡ 102 = joined-length rowBytes 6 (rows-six (e .rows)) ∙ rw n refl in
+    ap₂ (λ (rs : List Row) (number : ℕ). record { rows = rs; number = number })
+    (rw n at (pieces-back rowBytes rowFrom 6 row-back (rows-six (e .rows)) (e .number ∷ [])))
+    (getD-at (joined rowBytes (e .rows)) (e .number) [] 0 102 long)

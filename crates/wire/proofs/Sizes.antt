@@ -9,19 +9,19 @@ use Rattle.card.specs.declared.Record.{Record}
 use Rattle.wire.specs.Tables.{editionFrom, lentEdition, tableBytes, tableRoom}
 use Rattle.wire.specs.Records.{recordFrom, lentRecord, recordBytes, recordRoom}
 
-pub lent-edition : (bs : List ℕ) → length bs ≡ 102 → lentEdition bs ≡ editionFrom bs
+pub lent-edition : (bs : List ℕ) → length bs ≡ 103 → lentEdition bs ≡ editionFrom bs
 unfolding lentEdition
 lent-edition bs n = rw n
 
-pub table-room : (e : Edition) (room : List ℕ) → length room ≡ 102 → tableRoom e room ≡ tableBytes e
+pub table-room : (e : Edition) (room : List ℕ) → length room ≡ 103 → tableRoom e room ≡ tableBytes e
 unfolding tableRoom
 table-room e room n = rw n
 
-pub lent-record : (bs : List ℕ) → length bs ≡ 478 → lentRecord bs ≡ recordFrom bs
+pub lent-record : (bs : List ℕ) → length bs ≡ 479 → lentRecord bs ≡ recordFrom bs
 unfolding lentRecord
 lent-record bs n = rw n
 
-pub record-room : (r : Record) (room : List ℕ) → length room ≡ 478 → recordRoom r room ≡ recordBytes r
+pub record-room : (r : Record) (room : List ℕ) → length room ≡ 479 → recordRoom r room ≡ recordBytes r
 unfolding recordRoom
 record-room r room n = rw n
 

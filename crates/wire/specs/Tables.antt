@@ -1,7 +1,7 @@
--- A table is 102 bytes: for each row required (0 or 1), rule (0 to 7), and the lengths in four bytes, high first.
+-- A table is 103 bytes: for each row required (0 or 1), rule (0 to 7), and the lengths in four bytes, high first; then the edition's number.
 use Prim.Native.Nat.{ℕ, _/_, _%_, _^_}
 use mathlib.Core.Bool.{cond, _&&_}
-use mathlib.Core.List.{List, [], _∷_, map}
+use mathlib.Core.List.{List, [], _∷_, _++_, map}
 use lib.Dec.{eqb, leb}
 use lib.ListN.{length, getD, replicate}
 use Rattle.rules.specs.declared.Rule.{Rule}
@@ -38,14 +38,14 @@ rowFrom bs = record {
 }
 
 unfoldable pub editionFrom : List ℕ → Edition
-editionFrom bs = record { rows = map rowFrom (pieces 6 17 bs) }
+editionFrom bs = record { rows = map rowFrom (pieces 6 17 bs); number = getD bs 102 0 }
 
 -- a table of another size gives an edition with no good row
 abbrev pub noEdition : Edition
-noEdition = record { rows = replicate 17 noRow }
+noEdition = record { rows = replicate 17 noRow; number = 0 }
 
 unfoldable pub lentEdition : List ℕ → Edition
-lentEdition bs = cond (eqb (length bs) 102) (editionFrom bs) noEdition
+lentEdition bs = cond (eqb (length bs) 103) (editionFrom bs) noEdition
 
 -- the bytes of a row, and of an edition
 unfoldable pub rowBytes : Row → List ℕ
@@ -54,8 +54,8 @@ rowBytes r =
     ∷ (r .lengths / 2 ^ 24) ∷ (r .lengths / 2 ^ 16 % 256) ∷ (r .lengths / 2 ^ 8 % 256) ∷ (r .lengths % 256) ∷ []
 
 unfoldable pub tableBytes : Edition → List ℕ
-tableBytes e = joined rowBytes (e .rows)
+tableBytes e = joined rowBytes (e .rows) ++ (e .number ∷ [])
 
 -- a room of another size is left as it is
 unfoldable pub tableRoom : Edition → List ℕ → List ℕ
-tableRoom e room = cond (eqb (length room) 102) (tableBytes e) room
+tableRoom e room = cond (eqb (length room) 103) (tableBytes e) room

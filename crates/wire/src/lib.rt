@@ -1,4 +1,4 @@
-// Editions, records and refusals as bytes: a table of 102, a record of 478, an answer of one number.
+// Editions, records and refusals as bytes: a table of 103, a record of 479, an answer of one number.
 // What a table or a record says is taken as it stands: whether an edition is well formed, whether a record may be written, others ask.
 // Of bytes of another size comes an edition that no image passes, or the empty record; a room of another size is left as it is.
 mod answers;

@@ -1,4 +1,4 @@
-// A record as 478 bytes, and back.
+// A record as 479 bytes, and back.
 use card::Object;
 use card::Record;
 ghost use mathlib.Core.Path.{_≡_};
@@ -23,7 +23,7 @@ fn object_of(part: &[u8]) -> Object
 }
 
 fn objects_of(part: &[u8]) -> [Object; 16]
-    requires { ⌜ length (now part) ≡ 464 ⌝ }
+    requires { ⌜ 464 ≤ length (now part) ⌝ }
     ensures { λ r. ⌜ r ≡ map objectFrom (pieces 29 16 (now (part .entry))) ⌝ }
 {
     let mut objects = [Object::ABSENT; 16];
@@ -37,11 +37,11 @@ fn objects_of(part: &[u8]) -> [Object; 16]
     objects
 }
 
-// The record of 478 bytes; of another size, the empty one.
+// The record of 479 bytes; of another size, the empty one.
 pub fn record_of(bytes: &[u8]) -> Record
     ensures { λ r. ⌜ r ≡ lentRecord (now (bytes .entry)) ⌝ }
 {
-    if bytes.len() != 478 {
+    if bytes.len() != 479 {
         return Record::empty();
     }
     let mut free = [0u8; 12];
@@ -51,6 +51,7 @@ pub fn record_of(bytes: &[u8]) -> Record
         free,
         last: bytes[13],
         objects: objects_of(&bytes[14..]),
+        number: bytes[478],
     }
 }
 
@@ -91,13 +92,14 @@ fn put_ends(room: &mut [u8], content: Record) -> usize
     ground::put_byte(room, behind_free, content.last)
 }
 
-// Fills a room of 478 bytes with a record; a room of another size is left as it is.
+// Fills a room of 479 bytes with a record; a room of another size is left as it is.
 pub fn write_record(content: Record, room: &mut [u8])
     ensures { λ _. ⌜ now (room .exit) ≡ recordRoom content (now (room .entry)) ⌝ }
 {
-    if room.len() != 478 {
+    if room.len() != 479 {
         return;
     }
     let start = put_ends(room, content);
-    put_objects(room, start, content);
+    let end = put_objects(room, start, content);
+    ground::put_byte(room, end, content.number);
 }

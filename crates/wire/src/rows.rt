@@ -1,4 +1,4 @@
-// An edition as a table of 102 bytes, and back.
+// An edition as a table of 103 bytes, and back.
 use edition::Edition;
 use edition::Row;
 use rules::Rule;
@@ -7,7 +7,7 @@ ghost use mathlib.Core.Bool.{cond, _&&_};
 ghost use lib.Dec.{leb};
 ghost use lib.ListN.{length};
 ghost use Prim.Native.Nat.{_+_, _≤_};
-ghost use Rattle.ground.specs.Pieces.{fourBytes};
+ghost use Rattle.ground.specs.Pieces.{fourBytes, joined};
 ghost use Rattle.ground.specs.Rooms.{Put};
 ghost use Rattle.wire.specs.Tables.{numberOf, ruleOf, editionFrom, lentEdition, rowBytes, tableBytes, tableRoom};
 
@@ -67,7 +67,7 @@ const BLANK: Row = Row {
 };
 
 fn rows_of(table: &[u8]) -> [Row; 17]
-    requires { ⌜ length (now table) ≡ 102 ⌝ }
+    requires { ⌜ length (now table) ≡ 103 ⌝ }
     ensures { λ r. ⌜ r ≡ editionFrom (now (table .entry)) .rows ⌝ }
 {
     let mut rows = [BLANK; 17];
@@ -91,11 +91,15 @@ fn rows_of(table: &[u8]) -> [Row; 17]
 pub fn edition_of(table: &[u8]) -> Edition
     ensures { λ r. ⌜ r ≡ lentEdition (now (table .entry)) ⌝ }
 {
-    if table.len() != 102 {
-        return Edition { rows: [BLANK; 17] };
+    if table.len() != 103 {
+        return Edition {
+            rows: [BLANK; 17],
+            number: 0,
+        };
     }
     Edition {
         rows: rows_of(table),
+        number: table[102],
     }
 }
 
@@ -123,13 +127,12 @@ fn put_row(room: &mut [u8], at: usize, row: Row) -> usize
     )
 }
 
-// Fills a room of 102 bytes with the table of an edition; a room of another size is left as it is.
-pub fn write_table(edition: Edition, room: &mut [u8])
-    ensures { λ _. ⌜ now (room .exit) ≡ tableRoom edition (now (room .entry)) ⌝ }
+// Puts the rows: 102 bytes.
+fn put_rows(room: &mut [u8], edition: Edition) -> usize
+    requires { ⌜ 102 ≤ length (now room) ⌝ }
+    ensures { λ r. ⌜ Put (now (room .entry)) 0 (joined rowBytes (edition .rows)) (now (room .exit)) r ⌝ }
+    ensures { λ r. ⌜ r ≡ 102 ⌝ }
 {
-    if room.len() != 102 {
-        return;
-    }
     let mut place: usize = 0;
     let mut k: usize = 0;
     while k < 17 {
@@ -137,4 +140,16 @@ pub fn write_table(edition: Edition, room: &mut [u8])
         place = put_row(room, place, row);
         k += 1;
     }
+    place
+}
+
+// Fills a room of 103 bytes with the table of an edition; a room of another size is left as it is.
+pub fn write_table(edition: Edition, room: &mut [u8])
+    ensures { λ _. ⌜ now (room .exit) ≡ tableRoom edition (now (room .entry)) ⌝ }
+{
+    if room.len() != 103 {
+        return;
+    }
+    let place = put_rows(room, edition);
+    ground::put_byte(room, place, edition.number);
 }

@@ -12,9 +12,9 @@ use Rattle.edition.specs.declared.Row.{Row}
 use Rattle.edition.specs.declared.Edition.{Edition}
 use Rattle.edition.specs.Sets.{permitted}
 use Rattle.rules.specs.Values.{judged}
-use Rattle.edition.specs.Rows.{tags, formedFrom, noRow}
+use Rattle.edition.specs.Rows.{tags, formedOf, noRow}
 use Rattle.ground.proofs.Lists.{and-right}
-use Rattle.edition.proofs.Rows.{formed-within, permits-most}
+use Rattle.edition.proofs.Rows.{formed-rows, formed-within, permits-most}
 use Rattle.card.specs.declared.Object.{Object}
 use Rattle.card.specs.declared.Record.{Record}
 use Rattle.card.specs.declared.Refusal.{Refusal}
@@ -29,7 +29,7 @@ use Rattle.card.specs.Content.{noObject}
 use Rattle.writer.specs.Storing.{Storable}
 use Rattle.checks.proofs.Items.{claim-short}
 use Rattle.card.proofs.Chains.{neither, table-well}
-use Rattle.checks.proofs.Order.{refused-size, in-order}
+use Rattle.checks.proofs.Order.{refused-size, content-order, in-order}
 
 -- ---- where no row refuses, no object claims more than 28 bytes
 row-short : (t : ℕ) (r : Row) (v : List ℕ) → r .lengths < 2 ^ 29 → rowRefusal (entryOf t r) (fault r v) .number ≡ 0 → length v ≤ 28
@@ -68,26 +68,27 @@ template-allowed c e = go (leb 70 (templateLength (objectsOf c)) && leb (templat
     go true p z = leb-true _ _ (and-right (leb 70 (templateLength (objectsOf c))) (leb (templateLength (objectsOf c)) 212) p)
     go false p z = absurd (omega arith)
 
-size-allowed : (e : Edition) (c : Content) (n : ℕ) → writeRefusal e c n .number ≡ 0 → n ≡ 256
-size-allowed e c n z = go (eqb n 256) refl
+size-allowed : (e : Edition) (number : ℕ) (c : Content) (n : ℕ) → writeRefusal e number c n .number ≡ 0 → n ≡ 256
+size-allowed e number c n z = go (eqb n 256) refl
   where
     go : (q : Bool) → eqb n 256 ≡ q → n ≡ 256
     go true p = eqb-true n 256 p
-    go false p = absurd (let k = ap (λ (r : Refusal). r .number) (refused-size e c n (eqb-false n 256 p)) in omega arith)
+    go false p = absurd (let k = ap (λ (r : Refusal). r .number) (refused-size e number c n (eqb-false n 256 p)) in omega arith)
 
-pub accepted : (e : Edition) (r : Record) (n : ℕ) → length (e .rows) ≡ 17 → length (r .objects) ≡ 16 → writeRefusal e (contentOf r) n .number ≡ 0 → Accepted r n
+pub accepted : (e : Edition) (r : Record) (n : ℕ) → length (e .rows) ≡ 17 → length (r .objects) ≡ 16 → writeRefusal e (r .number) (contentOf r) n .number ≡ 0 → Accepted r n
 unfolding contentOf tags
 accepted e r n hr ho z =
-    let s = size-allowed e (contentOf r) n z in
-    let a = neither _ _ (rw (in-order e (contentOf r) n s refl refl refl refl) at z) in
-    let b = neither _ _ (a .second) in
+    let s = size-allowed e (r .number) (contentOf r) n z in
+    let a = neither _ _ (rw (in-order e (r .number) (contentOf r) n s refl) at z) in
+    let m = neither _ _ (a .second) in
+    let b = neither _ _ (rw (content-order e (contentOf r) refl refl refl) at (m .second)) in
     let c = neither _ _ (b .second) in
     let d = neither _ _ (c .second) in
-    let formed = table-well (formedFrom 0 (e .rows)) (a .first) in
+    let formed = table-well (formedOf e) (a .first) in
     record {
       sized = s;
       storable = record {
-        short = all-short objectTags (e .rows) (r .objects) (omega arith) (omega arith) (λ i h. formed-within (e .rows) i formed h .small) (c .first);
+        short = all-short objectTags (e .rows) (r .objects) (omega arith) (omega arith) (λ i h. formed-within (e .rows) i (formed-rows e formed) h .small) (c .first);
         most = template-allowed (contentOf r) (d .second);
       };
     }

@@ -4,7 +4,7 @@ use Prim.Native.Nat.{ℕ, _-_, _≤_}
 use native.Mathlib.Omega.{arith}
 use lib.ListN.{length, take, drop, length-map}
 use denote.Ref.{now}
-use Rattle.edition.specs.Rows.{formedFrom}
+use Rattle.edition.specs.Rows.{formedOf}
 use Rattle.card.specs.declared.Refusal.{Refusal}
 use Rattle.card.specs.declared.Places.{Places}
 use Rattle.card.specs.Refusals.{badRow}
@@ -35,11 +35,11 @@ returns c =
     let e = a .edition in
     let s = now (a .image) in
     let is = c .before .before .before .before .check-front .ensures ∙ ap (λ (x : Refusal). frontOf x s) (c .before .before .before .before .before .refuse-edition .ensures) in
-    let r = front-refused (badRow (formedFrom 0 (e .rows))) s _ is (c .before .if1 .taken) in
+    let r = front-refused (badRow (formedOf e)) s _ is (c .before .if1 .taken) in
     c .refused .ensures ∙ ap noPlaces r ∙ places-open e s (λ z. c .before .if1 .taken (ap (λ (x : Refusal). x .number) r ∙ z))
 
 -- the frame is right
-opened : (c : tie.Else1) → Opened (badRow (formedFrom 0 (c .before .before .before .before .before .before .args .edition .rows))) (now (c .before .before .before .before .before .before .args .image)) (c .before .before .before .check-front .result)
+opened : (c : tie.Else1) → Opened (badRow (formedOf (c .before .before .before .before .before .before .args .edition))) (now (c .before .before .before .before .before .before .args .image)) (c .before .before .before .check-front .result)
 opened c = front-opened _ _ _ (c .before .before .before .check-front .ensures ∙ ap (λ (x : Refusal). frontOf x (now (c .before .before .before .before .before .before .args .image))) (c .before .before .before .before .refuse-edition .ensures)) (c .if1 .left)
 
 spans : (c : tie.Else1) → (c .before .before .before .check-front .result .start ≤ c .before .before .before .check-front .result .end) × (c .before .before .before .check-front .result .end ≤ length (now (c .before .before .before .before .before .before .args .image)))

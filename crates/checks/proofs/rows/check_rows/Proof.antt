@@ -6,7 +6,7 @@ use lib.ListN.{length, length-map}
 use Rattle.card.specs.Content.{contentOf}
 use Rattle.card.specs.Rules.{objectRows}
 use Rattle.card.specs.Refusing.{rowsRefusal}
-use Rattle.edition.proofs.Rows.{formed-within}
+use Rattle.edition.proofs.Rows.{formed-rows, formed-within}
 use Rattle.checks.proofs.Faults.{rowsFrom, rows-start, rows-end, rows-pass, rows-stop}
 use Rattle.checks.proofs.rows.check_rows.Statement.{statement}
 use Rattle.checks.proofs.rows.check_rows.Tie as tie
@@ -45,7 +45,7 @@ check-row-requires : tie.Need-check-row-requires Inv-loop μ-loop
 check-row-requires c κs =
     let l = c .before .before .before .before .loop in
     let s = c .before .before .before .before .before in
-    formed-within (s .args .t1 .rows) (l .i) (s .pre) (omega (arith, seventeen s)) .small
+    formed-within (s .args .t1 .rows) (l .i) (formed-rows (s .args .t1) (s .pre)) (omega (arith, seventeen s)) .small
 
 returns : tie.Need-returns Inv-loop μ-loop
 returns c =

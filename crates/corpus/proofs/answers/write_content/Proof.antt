@@ -64,6 +64,15 @@ loop-again c = search needs
 write-number-requires : tie.Need-write-number-requires Inv-loop μ-loop
 write-number-requires c κs = search needs
 
+byte-at-requires : tie.Need-byte-at-requires Inv-loop μ-loop
+byte-at-requires c κs = search needs
+
+cast-write-number : tie.Need-cast-write-number Inv-loop μ-loop
+cast-write-number c = search needs
+
+write-number-requires-2 : tie.Need-write-number-requires-2 Inv-loop μ-loop
+write-number-requires-2 c κs = search needs
+
 returns : tie.Need-returns Inv-loop μ-loop
 returns c = search needs
 
@@ -90,4 +99,7 @@ write-content-spec =
     loop-less
     loop-again
     write-number-requires
+    byte-at-requires
+    cast-write-number
+    write-number-requires-2
     returns)

@@ -1,4 +1,4 @@
--- `corpus::cases::get_content` is safe and ends: sixteen slots of 29 bytes stand behind 14 bytes. Assumes nothing.
+-- `corpus::cases::get_content` is safe and ends: sixteen slots of 29 bytes stand behind 14 bytes, and the number behind them. Assumes nothing.
 use mathlib.Core.Path.{_≡_, sym}
 use Prim.Native.Nat.{_-_, _≤_}
 use native.Mathlib.Omega.{arith}
@@ -9,7 +9,7 @@ use Rattle.corpus.proofs.cases.get_content.Statement.{statement}
 use Rattle.corpus.proofs.cases.get_content.Tie as tie
 
 abbrev Inv-loop : tie.InvT-loop
-Inv-loop content₀ k₀ content k = (k ≤ 16) × (length content ≡ 478)
+Inv-loop content₀ k₀ content k = (k ≤ 16) × (length content ≡ 479)
 
 abbrev μ-loop : tie.MeasureT-loop
 μ-loop content₀ k₀ content k = 16 - k
@@ -68,6 +68,18 @@ loop-less c = search needs
 loop-again : tie.Need-loop-again Inv-loop μ-loop
 loop-again c = search needs
 
+sub-get : tie.Need-sub-get Inv-loop μ-loop
+sub-get c = search needs
+
+part-get-start : tie.Need-part-get-start Inv-loop μ-loop
+part-get-start c = search needs
+
+part-get-end : tie.Need-part-get-end Inv-loop μ-loop
+part-get-end c = search needs
+
+get-requires-2 : tie.Need-get-requires-2 Inv-loop μ-loop
+get-requires-2 c κs = search needs
+
 same-length-3 : tie.Need-same-length-3 Inv-loop μ-loop
 same-length-3 c = search needs
 
@@ -98,5 +110,9 @@ get-content-spec =
     add-k
     loop-less
     loop-again
+    sub-get
+    part-get-start
+    part-get-end
+    get-requires-2
     same-length-3
     returns-3)

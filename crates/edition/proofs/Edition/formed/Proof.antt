@@ -7,7 +7,7 @@ use borrow.Author.Needs.{needs}
 use borrow.Author.Tests.{not-true, not-false}
 use lib.ListN.{length, drop, length-map}
 use Rattle.edition.specs.Rows.{formedFrom, formedTold}
-use Rattle.edition.proofs.Rows.{formed-pass, formed-stop, formed-end}
+use Rattle.edition.proofs.Rows.{formed-pass, formed-stop, formed-end, bad-formed, unnumbered, well-formed}
 use Rattle.edition.proofs.Edition.formed.Statement.{statement}
 use Rattle.edition.proofs.Edition.formed.Tie as tie
 
@@ -37,7 +37,7 @@ returns : tie.Need-returns Inv-loop μ-loop
 returns c =
     let l = seventeen (c .before .before .before .before .before) in
     let h = c .before .before .before .before .loop in
-    ap formedTold (sym (formed-stop _ (h .i) (omega arith) (sym (c .before .row-formed .ensures) ∙ not-true _ (c .if1 .taken))) ∙ h .inv .1)
+    ap formedTold (sym (bad-formed _ (h .i) (sym (h .inv .1) ∙ formed-stop _ (h .i) (omega arith) (sym (c .before .row-formed .ensures) ∙ not-true _ (c .if1 .taken)))))
 
 add-i : tie.Need-add-i Inv-loop μ-loop
 add-i c = search needs
@@ -53,9 +53,15 @@ loop-again c =
 
 returns-2 : tie.Need-returns-2 Inv-loop μ-loop
 returns-2 c =
-    let l = seventeen (c .before .before) in
-    let h = c .before .loop in
-    ap formedTold (sym (formed-end _ (h .i) (omega arith)) ∙ h .inv .1)
+    let l = seventeen (c .before .before .before) in
+    let h = c .before .before .loop in
+    ap formedTold (sym (unnumbered _ (sym (h .inv .1) ∙ formed-end _ (h .i) (omega arith)) (c .if2 .taken)))
+
+returns-3 : tie.Need-returns-3 Inv-loop μ-loop
+returns-3 c =
+    let l = seventeen (c .before .before .before) in
+    let h = c .before .before .loop in
+    ap formedTold (sym (well-formed _ (sym (h .inv .1) ∙ formed-end _ (h .i) (omega arith)) (c .if2 .left)))
 
 pub formed-spec : {M : Type 1} → statement M
 formed-spec =
@@ -71,4 +77,5 @@ formed-spec =
     add-i
     loop-less
     loop-again
-    returns-2)
+    returns-2
+    returns-3)

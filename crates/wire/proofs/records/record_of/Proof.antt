@@ -16,7 +16,7 @@ empty-requires c κs = search needs
 
 returns : tie.Need-returns
 unfolding lentRecord
-returns c = rw (ne-eqb _ 478 (c .before .if1 .taken)) (c .empty .ensures)
+returns c = rw (ne-eqb _ 479 (c .before .if1 .taken)) (c .empty .ensures)
 
 slice-aggregate-put : tie.Need-slice-aggregate-put
 slice-aggregate-put c = search needs
@@ -51,14 +51,17 @@ part-objects-of-end c = search needs
 objects-of-requires : tie.Need-objects-of-requires
 objects-of-requires c κs = search needs
 
+shared-slice-read-t21 : tie.Need-shared-slice-read-t21
+shared-slice-read-t21 c = search needs
+
 returns-2 : tie.Need-returns-2
 unfolding lentRecord recordFrom
 returns-2 c =
-    let put = c .before .before .before .before .before in
+    let put = c .before .before .before .before .before .before in
     let size = put .before .before .before .if1 .left in
     let bytes = put .before .before .before .before .before .args .bytes .now in
     let twelve : length (take 12 (drop 1 bytes)) ≡ 12 = length-take-le 12 (drop 1 bytes) (omega (arith, length-drop 1 bytes)) in
-    rw (size, c .objects-of .ensures, to-end, put-whole _ (take 12 (drop 1 bytes)) twelve (put .put .ensures .1))
+    rw (size, c .before .objects-of .ensures, to-end, put-whole _ (take 12 (drop 1 bytes)) twelve (put .put .ensures .1))
 
 pub record-of-spec : {M : Type 1} → statement M
 record-of-spec =
@@ -77,4 +80,5 @@ record-of-spec =
     part-objects-of-start
     part-objects-of-end
     objects-of-requires
+    shared-slice-read-t21
     returns-2)
