@@ -8,14 +8,18 @@
 #include "list.h"
 #include "samples.h"
 
-static int list(void)
+/* The listing program; name is its first argument, or NULL. Input is read only if the edition is known. */
+static int list(const char *name)
 {
     uint8_t table[TABLE_SIZE];
     uint8_t bytes[IMAGE_SIZE + 1];
-    size_t length = fread(bytes, 1, sizeof bytes, stdin);
+    uint64_t which = name == NULL ? EDITION_ISSUE : strcmp(name, "terminal") == 0 ? EDITION_TERMINAL : 0;
+    uint64_t answer = second_edition(which, table, TABLE_SIZE);
 
-    second_edition(EDITION_TERMINAL, table, TABLE_SIZE);
-    list_image(stdout, table, bytes, length);
+    if (answer != 0)
+        list_refusal(stdout, answer);
+    else
+        list_image(stdout, table, bytes, fread(bytes, 1, sizeof bytes, stdin));
     return 0;
 }
 
@@ -52,7 +56,7 @@ static int samples(const char *folder)
 
 static int usage(void)
 {
-    fputs("second list | batch [terminal|issue] | answer | cases SEED | tally | pick NUMBER | samples DIR\n", stderr);
+    fputs("second list [terminal] | batch [terminal|issue] | answer | cases SEED | tally | pick NUMBER | samples DIR\n", stderr);
     return 2;
 }
 
@@ -78,9 +82,9 @@ static int run(int count, char **words)
     if (count < 2)
         return usage();
     if (strcmp(words[1], "list") == 0)
-        return list();
+        return list(count > 2 ? words[2] : NULL);
     if (strcmp(words[1], "batch") == 0)
-        return batch(count > 2 ? words[2] : "terminal");
+        return batch(count > 2 ? words[2] : "issue");
     if (strcmp(words[1], "samples") == 0 && count == 3)
         return samples(words[2]);
     return run_on_cases(count, words);

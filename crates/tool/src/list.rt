@@ -40,7 +40,7 @@ pub(crate) fn run() -> u8
 {
     let words = os::arg_count();
     if words == 3 {
-        return list_file(Edition::TERMINAL, 2);
+        return list_file(words::default_edition(), 2);
     }
     let edition = words::edition_at(2);
     if (words != 4) | (edition == 0) {

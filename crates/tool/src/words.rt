@@ -49,6 +49,11 @@ pub(crate) fn edition_by(number: u64) -> Edition {
     }
 }
 
+// The edition of a command that names none: that of a listing.
+pub(crate) fn default_edition() -> Edition {
+    edition_by(files::choose(false, b""))
+}
+
 // The number of the edition that word i names, or 0.
 pub(crate) fn edition_at(i: usize) -> u64 {
     let mut word = [0u8; 16];
