@@ -8,6 +8,7 @@ pub mod Octets
 pub mod Room
 pub mod Chains
 pub mod Walks
+pub mod Unrefused
 pub mod Seventeen
 pub mod FieldsRead
 pub mod LastRow

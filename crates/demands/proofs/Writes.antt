@@ -13,27 +13,20 @@ use Rattle.card.specs.declared.Record.{Record}
 use Rattle.card.specs.Content.{Content, valueOf, contentOf, recordOf}
 use Rattle.card.specs.Refusals.{none, gate, orElse, badRow}
 use Rattle.card.specs.Layout.{templateLength, objectsOf, layout}
-use Rattle.card.specs.Rules.{Entry, RowMet, AllMet, none-left, one-more, Fault, met, missing, length-out, byte-out, value-out, fault, Allowed}
+use Rattle.card.specs.Rules.{Entry, AllMet, none-left, one-more, fault, Allowed}
 use Rattle.card.proofs.Records.{content-back, number-back}
 use Rattle.card.proofs.Chains.{neither, gate-in, table-well}
 use Rattle.card.specs.Reading.{accepted, answer}
 use Rattle.card.specs.Sums.{sumsRefusal}
 use Rattle.card.specs.Refusing.{rowRefusal, rowsRefusal, endsRefusal, templateRefusal, numberRefusal, contentRefusal, writeRefusal}
 use Rattle.card.specs.Writing.{recordRefusal, bufferAfter}
-use Rattle.card.proofs.Walks.{fault-met, met-fault}
+use Rattle.card.proofs.Walks.{fault-met}
+use Rattle.card.proofs.Unrefused.{row-in}
 use Rattle.card.proofs.Seventeen.{table-of}
 use Rattle.demands.proofs.ReadSound.{read-sound}
 use Rattle.demands.proofs.ReadComplete.{read-complete}
 
 -- ---- a chain of rows that refuses nothing
-row-in : (r : Entry) (v : List ℕ) (f : Fault) → fault (r .row) v ≡ f → rowRefusal r f .number ≡ 0 → RowMet (r .row) v
-unfolding rowRefusal
-row-in r v met e h = met-fault (r .row) v e
-row-in r v missing e h = absurd (omega arith)
-row-in r v length-out e h = absurd (omega arith)
-row-in r v (byte-out i) e h = absurd (omega arith)
-row-in r v value-out e h = absurd (omega arith)
-
 rows-in : (rs : List Entry) (vs : List (List ℕ)) → length vs ≡ length rs → rowsRefusal rs vs .number ≡ 0 → AllMet rs vs
 unfolding rowsRefusal
 rows-in [] [] n h = none-left
