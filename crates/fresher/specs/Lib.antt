@@ -1,0 +1,3 @@
+-- The fresher of two cards.
+pub mod Comparing
+pub mod Bytes
