@@ -1,0 +1,2 @@
+-- The second card rebuilt from the first and the list.
+pub mod Rebuilding
