@@ -1,0 +1,2 @@
+-- Our own plans.
+pub mod Planning

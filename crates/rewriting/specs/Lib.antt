@@ -1,0 +1,3 @@
+-- Rewriting a card with a pulled plug.
+pub mod Plans
+pub mod Checking
