@@ -1,0 +1,88 @@
+-- What each call answers: a refusal and 0, or a number; and what it leaves in the room that it is lent.
+use Prim.Native.Nat.{ℕ, _+_, _*_, _/_, _%_}
+use mathlib.Core.Bool.{Bool, true, false, cond, not, _&&_}
+use mathlib.Core.List.{List, [], _∷_, _++_}
+use lib.Dec.{eqb, leb, ltb}
+use lib.ListN.{length, take, drop}
+use Rattle.ground.specs.Lists.{leading}
+use Rattle.rules.specs.Values.{isDigit}
+use Rattle.card.specs.declared.Refusal.{Refusal}
+use Rattle.card.specs.Refusals.{refuse, none, gate, orElse}
+use Rattle.ground.specs.Pieces.{pieces}
+use Rattle.day.specs.declared.Answer.{Answer}
+use Rattle.ground.specs.Lists.{sameList}
+use Rattle.day_cards.specs.Cards.{isCard, numberOf}
+use Rattle.day.specs.Files.{fileOf, mostCards, sizeOf, countIn, imagesIn, cardsRefusal, fileRefusal}
+
+abbrev pub accepts : Refusal → Bool
+accepts x = eqb (x .number) 0
+
+unfoldable pub answered : Refusal → ℕ → Answer
+answered x n = record { refusal = x; value = cond (accepts x) n 0 }
+
+-- a refusal leaves the room unchanged, and what lies behind the new file stays
+unfoldable pub roomAfter : Refusal → List ℕ → List ℕ → List ℕ
+roomAfter x new room = cond (accepts x) (new ++ drop (length new) room) room
+
+-- ---- reading: the count, and where the image at a position starts
+unfoldable pub countAnswer : List ℕ → Answer
+countAnswer file = answered (fileRefusal file) (countIn file)
+
+unfoldable pub imageRefusal : List ℕ → ℕ → Refusal
+imageRefusal file position = orElse (fileRefusal file) (gate (ltb position (countIn file)) (refuse 44 0 0) none)
+
+unfoldable pub imageAnswer : List ℕ → ℕ → Answer
+imageAnswer file position = answered (imageRefusal file position) (position * 256)
+
+-- its bytes, none where it is refused
+unfoldable pub imageAt : List ℕ → ℕ → List ℕ
+imageAt file position = cond (accepts (imageRefusal file position)) (take 256 (drop (position * 256) file)) []
+
+-- ---- finding: 6 to 12 digits, and the first card that has this number
+unfoldable pub numberFormed : List ℕ → Bool
+numberFormed number = leb 6 (length number) && (leb (length number) 12 && eqb (leading isDigit number) (length number))
+
+abbrev pub hasNumber : List ℕ → List ℕ → Bool
+hasNumber number image = sameList (numberOf image) number
+
+unfoldable pub firstWith : List ℕ → List (List ℕ) → ℕ
+firstWith number images = leading (λ x. not (hasNumber number x)) images
+
+unfoldable pub findRefusal : List ℕ → List ℕ → Refusal
+findRefusal file number =
+    orElse (fileRefusal file)
+    (gate (numberFormed number && ltb (firstWith number (imagesIn file)) (countIn file)) (refuse 44 0 0) none)
+
+unfoldable pub findAnswer : List ℕ → List ℕ → Answer
+findAnswer file number = answered (findRefusal file number) (firstWith number (imagesIn file))
+
+-- ---- adding a card at the end
+unfoldable pub addRefusal : List ℕ → List ℕ → ℕ → Refusal
+addRefusal file card size =
+    orElse (fileRefusal file)
+    (gate (ltb (countIn file) mostCards) (refuse 43 0 0)
+    (gate (leb (sizeOf (countIn file + 1)) size) (refuse 45 0 0)
+    (gate (isCard card) (refuse 41 (countIn file) 0) none)))
+
+unfoldable pub addAnswer : List ℕ → List ℕ → List ℕ → Answer
+addAnswer file card room = answered (addRefusal file card (length room)) (sizeOf (countIn file + 1))
+
+unfoldable pub addRoom : List ℕ → List ℕ → List ℕ → List ℕ
+addRoom file card room = roomAfter (addRefusal file card (length room)) (fileOf (imagesIn file ++ (card ∷ []))) room
+
+-- ---- building a file afresh, from images laid end to end
+unfoldable pub laidImages : List ℕ → List (List ℕ)
+laidImages bytes = pieces 256 (length bytes / 256) bytes
+
+unfoldable pub buildRefusal : List ℕ → ℕ → Refusal
+buildRefusal bytes size =
+    gate (eqb (length bytes % 256) 0) (refuse 40 0 0)
+    (orElse (cardsRefusal 0 (laidImages bytes))
+    (gate (leb (length bytes / 256) mostCards) (refuse 43 0 0)
+    (gate (leb (sizeOf (length bytes / 256)) size) (refuse 45 0 0) none)))
+
+unfoldable pub buildAnswer : List ℕ → List ℕ → Answer
+buildAnswer bytes room = answered (buildRefusal bytes (length room)) (sizeOf (length bytes / 256))
+
+unfoldable pub buildRoom : List ℕ → List ℕ → List ℕ
+buildRoom bytes room = roomAfter (buildRefusal bytes (length room)) (fileOf (laidImages bytes)) room

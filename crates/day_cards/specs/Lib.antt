@@ -1,0 +1,2 @@
+-- A card of a day, and its entry in the index.
+pub mod Cards
