@@ -1,0 +1,37 @@
+-- What stands at a tag, in bytes that go up to the enclosing end.
+use Prim.Native.Nat.{ℕ, _+_, _-_}
+use mathlib.Core.Bool.{Bool, cond, not, _||_}
+use mathlib.Core.List.{List}
+use lib.Bits.{bitAnd}
+use lib.Dec.{eqb, ltb}
+use lib.ListN.{length, getD, drop}
+use Rattle.lengths.specs.declared.ToldLength.{ToldLength}
+use Rattle.lengths.specs.Lengths.{lengthRead, lengthTold}
+use Rattle.tree.specs.declared.tags.Head.{Head}
+use Rattle.tree.specs.declared.tags.Head.the-variants.{Object, Refused}
+
+-- tag '00', or its low five bits all ones
+abbrev pub badTag : ℕ → Bool
+badTag t = eqb t 0 || eqb (bitAnd t 0x1F) 0x1F
+
+-- bit '20': the value is a list of objects
+abbrev pub isList : ℕ → Bool
+isList t = not (eqb (bitAnd t 0x20) 0)
+
+-- the length field behind a tag
+abbrev pub fieldBehind : List ℕ → ToldLength
+fieldBehind s = lengthTold (lengthRead (drop 1 s))
+
+-- 51 at the field's first byte; 52 where the value goes past the end; else the tag, where the value starts behind it, and its length
+abbrev pub onField : ToldLength → List ℕ → ℕ → Head
+onField field s at =
+    cond (eqb (field .number) 0)
+    (cond (ltb (length s - (field .used + 1)) (field .length)) (Refused 52 at) (Object (getD s 0 0) (field .used + 1) (field .length)))
+    (Refused 51 (at + 1))
+
+-- `at` is the tag's address: 50, then 53, then the length field
+unfoldable pub headAt : List ℕ → ℕ → ℕ → Head
+headAt s at depth =
+    cond (badTag (getD s 0 0)) (Refused 50 at)
+    (cond (ltb 6 depth) (Refused 53 at)
+    (onField (fieldBehind s) s at))
