@@ -1,0 +1,2 @@
+-- Facts that can be counted.
+pub mod Counts
