@@ -73,6 +73,7 @@ static void make_corpus(struct corpus *corpus)
     uint8_t tables[2][TABLE_SIZE];
     size_t i;
 
+    fprintf(stderr, "bench: making %d items for '%s'\n", ITEMS, corpus->name);
     second_edition(EDITION_TERMINAL, tables[0], TABLE_SIZE);
     second_edition(EDITION_ISSUE, tables[1], TABLE_SIZE);
     for (i = 0; i < ITEMS; i++) {
@@ -156,6 +157,7 @@ static void measure(const struct corpus *corpus)
     double library[ROUNDS], second[ROUNDS], least[ROUNDS], ratio[ROUNDS];
     size_t round;
 
+    fprintf(stderr, "bench: timing '%s', %d of %d\n", corpus->name, (int)(corpus - corpora) + 1, (int)CORPORA);
     for (round = 0; round < ROUNDS; round++) {
         library[round] = time_calls(corpus, corpus->library);
         second[round] = time_calls(corpus, corpus->second);
@@ -164,6 +166,7 @@ static void measure(const struct corpus *corpus)
     }
     printf("%-16s %8.1f %8.1f %8.1f %16.2f\n", corpus->name, median(library), median(second), median(least),
            median(ratio));
+    fflush(stdout);
 }
 
 int main(void)
@@ -175,6 +178,7 @@ int main(void)
         make_corpus(&corpora[i]);
     printf("Nanoseconds per call, and the ratio, as medians of %d rounds of %d calls.\n", ROUNDS, ITEMS * REPEATS);
     printf("%-16s %8s %8s %8s %16s\n", "", "library", "second", "floor", "library/second");
+    fflush(stdout);
     for (i = 0; i < CORPORA; i++)
         measure(&corpora[i]);
     return 0;

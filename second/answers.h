@@ -8,5 +8,19 @@ uint64_t answer_read(const struct test_case *test_case, FILE *out);
 uint64_t answer_write(const struct test_case *test_case, FILE *out);
 uint64_t answer_renumber(const struct test_case *test_case, FILE *out);
 uint64_t answer_length(const struct test_case *test_case, FILE *out);
+uint64_t answer_places(const struct test_case *test_case, FILE *out);
+uint64_t answer_host(const struct test_case *test_case, FILE *out);
+uint64_t answer_fresher(const struct test_case *test_case, FILE *out);
+uint64_t answer_differences(const struct test_case *test_case, FILE *out);
+uint64_t answer_plan(const struct test_case *test_case, FILE *out);
+uint64_t answer_check_plan(const struct test_case *test_case, FILE *out);
+uint64_t answer_front(const struct test_case *test_case, FILE *out);
+uint64_t answer_day_count(const struct test_case *test_case, FILE *out);
+uint64_t answer_day_image(const struct test_case *test_case, FILE *out);
+uint64_t answer_day_find(const struct test_case *test_case, FILE *out);
+uint64_t answer_day_add(const struct test_case *test_case, FILE *out);
+uint64_t answer_day_build(const struct test_case *test_case, FILE *out);
+uint64_t answer_tree(const struct test_case *test_case, FILE *out);
+uint64_t answer_tree_write(const struct test_case *test_case, FILE *out);
 
 #endif

@@ -26,19 +26,34 @@ static int get_bytes(FILE *in, uint8_t *bytes, size_t count)
     return fread(bytes, 1, count, in) == count;
 }
 
-static int get_length(FILE *in, size_t *length)
+static int get_length(FILE *in, size_t *length, size_t max)
 {
     uint8_t bytes[2];
 
     if (!get_bytes(in, bytes, 2))
         return 0;
     *length = (size_t)bytes[0] << 8 | bytes[1];
-    return *length <= LENT_MAX;
+    return *length <= max;
 }
 
-static int get_span(FILE *in, struct span *span)
+static int get_span(FILE *in, struct span *span, size_t max)
 {
-    return get_length(in, &span->length) && get_bytes(in, span->bytes, span->length);
+    return get_length(in, &span->length, max) && get_bytes(in, span->bytes, span->length);
+}
+
+static int get_words(FILE *in, struct test_case *test_case)
+{
+    uint8_t bytes[4];
+    size_t i;
+
+    if (!get_length(in, &test_case->word_count, WORDS_MAX))
+        return 0;
+    for (i = 0; i < test_case->word_count; i++) {
+        if (!get_bytes(in, bytes, 4))
+            return 0;
+        test_case->words[i] = (uint32_t)bytes[0] << 24 | (uint32_t)bytes[1] << 16 | (uint32_t)bytes[2] << 8 | bytes[3];
+    }
+    return 1;
 }
 
 static int get_slot(FILE *in, uint8_t *slot)
@@ -88,11 +103,17 @@ static int get_field(FILE *in, struct test_case *test_case, char field, struct c
     case 'e':
         return get_edition(in, &test_case->editions[next->edition++]);
     case 's':
-        return get_span(in, &test_case->spans[next->span++]);
+        return get_span(in, &test_case->spans[next->span++], LENT_MAX);
+    case 'l':
+        return get_span(in, &test_case->spans[next->span++], LONG_MAX);
     case 'n':
-        return get_length(in, &test_case->numbers[next->number++]);
+        return get_length(in, &test_case->numbers[next->number++], LENT_MAX);
+    case 'm':
+        return get_length(in, &test_case->numbers[next->number++], LONG_MAX);
     case 'r':
         return get_record(in, test_case->record);
+    case 'w':
+        return get_words(in, test_case);
     default:
         return get_bytes(in, &test_case->fill, 1);
     }
@@ -132,6 +153,17 @@ static void put_span(FILE *out, const struct span *span)
     fwrite(span->bytes, 1, span->length, out);
 }
 
+static void put_words(FILE *out, const struct test_case *test_case)
+{
+    size_t i;
+
+    put_length(out, test_case->word_count);
+    for (i = 0; i < test_case->word_count; i++) {
+        put_length(out, test_case->words[i] >> 16);
+        put_length(out, test_case->words[i] & 0xFFFF);
+    }
+}
+
 /* Behind the value all bytes are taken to be as the last one. */
 static void put_record(FILE *out, const uint8_t *record)
 {
@@ -162,13 +194,18 @@ static void put_field(FILE *out, const struct test_case *test_case, char field, 
         put_edition(out, &test_case->editions[next->edition++]);
         break;
     case 's':
+    case 'l':
         put_span(out, &test_case->spans[next->span++]);
         break;
     case 'n':
+    case 'm':
         put_length(out, test_case->numbers[next->number++]);
         break;
     case 'r':
         put_record(out, test_case->record);
+        break;
+    case 'w':
+        put_words(out, test_case);
         break;
     default:
         putc(test_case->fill, out);
@@ -205,6 +242,18 @@ void print_room(FILE *out, const uint8_t *room, size_t length, uint8_t fill)
         putc('=', out);
     else
         print_hex(out, room, length);
+}
+
+void print_filled(FILE *out, const uint8_t *room, size_t count, size_t length, uint8_t fill)
+{
+    unsigned changed = 0;
+    size_t i;
+
+    for (i = count; i < length; i++)
+        changed += room[i] != fill;
+    fprintf(out, "%u ", (unsigned)count);
+    print_hex(out, room, count);
+    fprintf(out, "%s %u", count == 0 ? "=" : "", changed);
 }
 
 uint64_t answer_case(const struct test_case *test_case, FILE *out)

@@ -6,7 +6,7 @@
 
 #include "card.h"
 
-enum { LENT_MAX = 600, EDITION_FIELDS = 2, NUMBER_FIELDS = 2, SPAN_FIELDS = 3 };
+enum { LENT_MAX = 600, LONG_MAX = 4200, WORDS_MAX = 300, EDITION_FIELDS = 2, NUMBER_FIELDS = 2, SPAN_FIELDS = 3 };
 
 struct edition {
     uint8_t selector;
@@ -15,7 +15,7 @@ struct edition {
 
 struct span {
     size_t length;
-    uint8_t bytes[LENT_MAX];
+    uint8_t bytes[LONG_MAX];
 };
 
 /* What is lent to a call, each field filled as far as the kind has such fields. */
@@ -26,9 +26,12 @@ struct test_case {
     size_t numbers[NUMBER_FIELDS];
     uint8_t record[RECORD_SIZE];
     uint8_t fill;
+    uint32_t words[WORDS_MAX];
+    size_t word_count;
 };
 
-/* fields: e an edition, s a span, n a number of two bytes, r a record, f the byte that fills a room at first.
+/* fields: e an edition, s a span, n a number of two bytes, r a record, f the byte that fills a room at first,
+   w words of four bytes, l a span and m a number up to LONG_MAX.
    answer writes what the line says behind the letter. */
 struct kind {
     uint8_t letter;
@@ -52,5 +55,7 @@ void pick_images(FILE *in, FILE *out, unsigned long every);
 void print_hex(FILE *out, const uint8_t *bytes, size_t count);
 /* `=` if each byte is the fill, else all of them. */
 void print_room(FILE *out, const uint8_t *room, size_t length, uint8_t fill);
+/* How many, the first so many bytes or `=`, and how many behind them are not the fill. */
+void print_filled(FILE *out, const uint8_t *room, size_t count, size_t length, uint8_t fill);
 
 #endif

@@ -137,4 +137,11 @@ void write_corpus(uint64_t seed)
     edition_cases();
     length_cases();
     number_cases();
+    places_cases();
+    fresher_cases();
+    differences_cases();
+    plan_cases();
+    front_cases();
+    day_cases();
+    tree_cases();
 }

@@ -40,6 +40,13 @@ void shared_cases(void);
 void edition_cases(void);
 void length_cases(void);
 void number_cases(void);
+void places_cases(void);
+void fresher_cases(void);
+void differences_cases(void);
+void plan_cases(void);
+void front_cases(void);
+void day_cases(void);
+void tree_cases(void);
 
 void write_corpus(uint64_t seed);
 

@@ -5,6 +5,9 @@
 
 #include "card.h"
 #include "cases.h"
+#include "chance.h"
+#include "front.h"
+#include "grow.h"
 #include "list.h"
 #include "samples.h"
 
@@ -41,6 +44,51 @@ static int batch(const char *name)
     return 0;
 }
 
+/* The four lines of a card that terminal accepts. */
+static int front(uint64_t layout)
+{
+    uint8_t table[TABLE_SIZE], image[IMAGE_SIZE + 1], record[RECORD_SIZE], room[FRONT_SIZE];
+    size_t length = fread(image, 1, sizeof image, stdin);
+    uint64_t answer;
+    size_t i;
+
+    second_edition(EDITION_TERMINAL, table, TABLE_SIZE);
+    answer = second_read(table, TABLE_SIZE, image, length, record, RECORD_SIZE);
+    if (answer == 0)
+        answer = second_front(record, RECORD_SIZE, layout, room, FRONT_SIZE);
+    if (answer != 0)
+        list_refusal(stdout, answer);
+    for (i = 0; answer == 0 && i < LINE_COUNT; i++)
+        printf("|%.*s|\n", (int)LINE_SIZE, (const char *)room + i * LINE_SIZE);
+    return 0;
+}
+
+/* As openssl's asn1parse tells it. */
+static int tree(void)
+{
+    static uint8_t bytes[TREE_MAX + 1];
+    static uint16_t listing[TREE_WORDS_MAX];
+    uint64_t answer = second_tree(bytes, fread(bytes, 1, sizeof bytes, stdin), listing, TREE_WORDS_MAX);
+    const uint16_t *entry = listing;
+    size_t i;
+
+    if ((answer & 0xFF) != 0)
+        printf("REFUSED %u %u\n", (unsigned)(answer & 0xFF), (unsigned)(answer >> 40));
+    for (i = 0; (answer & 0xFF) == 0 && i < answer >> 40; i++, entry += TREE_ENTRY)
+        printf("%u %u %u %u %s\n", entry[2], entry[1] - 1u, entry[3] > 255 ? 4u : entry[3] > 127 ? 3u : 2u, entry[3],
+               (entry[0] & 0x20) != 0 ? "cons" : "prim");
+    return 0;
+}
+
+static int grow(const char *seed)
+{
+    static uint8_t bytes[TREE_MAX];
+
+    chance_seed(strtoull(seed, NULL, 10));
+    fwrite(bytes, 1, grow_tree(bytes, chance(4) ? 200 : TREE_MAX), stdout);
+    return 0;
+}
+
 static int is_number(const char *word)
 {
     return *word != '\0' && strspn(word, "0123456789") == strlen(word);
@@ -56,7 +104,8 @@ static int samples(const char *folder)
 
 static int usage(void)
 {
-    fputs("second list [terminal] | batch [terminal|issue] | answer | cases SEED | tally | pick NUMBER | samples DIR\n", stderr);
+    fputs("second list [terminal] | batch [terminal|issue] | front [with] | tree | grow SEED | samples DIR\n"
+          "     | cases SEED | answer | tally | pick NUMBER\n", stderr);
     return 2;
 }
 
@@ -85,6 +134,12 @@ static int run(int count, char **words)
         return list(count > 2 ? words[2] : NULL);
     if (strcmp(words[1], "batch") == 0)
         return batch(count > 2 ? words[2] : "issue");
+    if (strcmp(words[1], "front") == 0)
+        return front(count > 2 && strcmp(words[2], "with") == 0);
+    if (strcmp(words[1], "tree") == 0)
+        return tree();
+    if (strcmp(words[1], "grow") == 0 && count == 3 && is_number(words[2]))
+        return grow(words[2]);
     if (strcmp(words[1], "samples") == 0 && count == 3)
         return samples(words[2]);
     return run_on_cases(count, words);

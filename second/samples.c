@@ -2,8 +2,9 @@
 #include "samples.h"
 
 #include <stdio.h>
+#include <string.h>
 
-#include "draft.h"
+#include "day.h"
 
 #define COUNT(list) (sizeof(list) / sizeof((list)[0]))
 
@@ -247,27 +248,57 @@ static const struct {
     {"refused-17-last-byte", make_last_byte}
 };
 
-int write_samples(const char *folder)
+size_t sample_count(void)
+{
+    return COUNT(samples);
+}
+
+void make_sample(size_t which, struct draft *draft)
+{
+    samples[which].make(draft);
+}
+
+static int write_file(const char *folder, const char *name, const uint8_t *bytes, size_t length)
 {
     char path[1024];
+    int written = snprintf(path, sizeof path, "%s/%s", folder, name);
+    FILE *out = written < 0 || (size_t)written >= sizeof path ? NULL : fopen(path, "wb");
+    int whole;
+
+    if (out == NULL)
+        return 0;
+    whole = fwrite(bytes, 1, length, out) == length;
+    return fclose(out) == 0 && whole;
+}
+
+/* Three cards of the samples, two of them with the same insured number. */
+static int write_day(const char *folder)
+{
+    static void (*const makers[])(struct draft *draft) = {make_full, make_status_1000, make_country_d};
+    uint8_t images[COUNT(makers) * IMAGE_SIZE], file[1000];
+    struct draft draft;
+    uint64_t answer;
+    size_t i;
+
+    for (i = 0; i < COUNT(makers); i++) {
+        makers[i](&draft);
+        memcpy(images + i * IMAGE_SIZE, draft.image, IMAGE_SIZE);
+    }
+    answer = second_day_build(images, sizeof images, file, sizeof file);
+    return write_file(folder, "three-visits.day", file, (size_t)(answer >> 40));
+}
+
+int write_samples(const char *folder)
+{
+    struct draft draft;
+    char name[64];
     size_t i;
 
     for (i = 0; i < COUNT(samples); i++) {
-        struct draft draft;
-        FILE *out;
-        int length = snprintf(path, sizeof path, "%s/%s.kvk", folder, samples[i].name);
-        if (length < 0 || (size_t)length >= sizeof path)
-            return 1;
-        out = fopen(path, "wb");
-        if (out == NULL)
-            return 1;
+        snprintf(name, sizeof name, "%s.kvk", samples[i].name);
         samples[i].make(&draft);
-        if (fwrite(draft.image, 1, IMAGE_SIZE, out) != IMAGE_SIZE) {
-            fclose(out);
-            return 1;
-        }
-        if (fclose(out) != 0)
+        if (!write_file(folder, name, draft.image, IMAGE_SIZE))
             return 1;
     }
-    return 0;
+    return write_day(folder) ? 0 : 1;
 }

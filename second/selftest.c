@@ -526,6 +526,13 @@ int main(int count, char **words)
     test_numbers();
     test_random_damage();
     test_lengths();
+    test_places();
+    test_fresher();
+    test_differences();
+    test_plans();
+    test_fronts();
+    test_days();
+    test_trees();
     for (int i = 1; i < count; i++)
         test_file(words[i]);
     printf("selftest: %lu checks, %lu failures\n", checks, failures);

@@ -17,5 +17,12 @@ uint8_t *exact_copy(const uint8_t *bytes, size_t length);
 
 /* The tests of other files. */
 void test_lengths(void);
+void test_places(void);
+void test_fresher(void);
+void test_differences(void);
+void test_plans(void);
+void test_fronts(void);
+void test_days(void);
+void test_trees(void);
 
 #endif

@@ -1,5 +1,6 @@
 /* Compares the library with the second program over random cases, up to the first difference:
-   compare SEED COUNT
+   compare SEED COUNT [KIND]
+   With a kind, as it stands in the table that is printed, only such cases are compared.
    Exit status: 0 no difference, 1 a difference, 2 bad usage. */
 #include "compare.h"
 
@@ -11,17 +12,16 @@
 #include "kvk.h"
 #include "list.h"
 
-enum { MARGIN = 64, GUARD = 0x5A, LENDING = 16 };
+enum { MARGIN = 64, GUARD = 0x5A, LENDING = 16, REPORTS = 10 };
 
-static const struct comparison *const kinds_compared[] = {&reading, &writing, &renumbering, &length_fields};
+static const struct comparison *const kinds_compared[] = {
+    &reading, &writing, &renumbering, &length_fields, &object_places, &host_commands, &fresher_cards,
+    &differences, &plans, &plan_checks, &fronts,
+    &day_counts, &day_images, &day_finds, &day_adds, &day_builds,
+    &trees, &tree_writings
+};
 
 enum { KIND_COUNT = sizeof kinds_compared / sizeof kinds_compared[0] };
-
-struct result {
-    uint64_t answer;
-    struct bytes room;
-    const char *fault;
-};
 
 /* Lending */
 
@@ -58,6 +58,18 @@ static int is_unchanged(const struct place *place, const struct bytes *bytes)
     return margins_are_whole(place, bytes->length) && memcmp(place->at, bytes->at, bytes->length) == 0;
 }
 
+/* 1 for parts that the kind has not. */
+static size_t part_word(const struct comparison *kind, size_t part)
+{
+    size_t i;
+
+    for (i = 0; kind->parts[i].name != NULL; i++) {
+        if (i == part)
+            return kind->parts[i].word;
+    }
+    return 1;
+}
+
 static void run(work *function, const struct call *call, struct result *result)
 {
     static struct place places[LENT_COUNT], room;
@@ -65,10 +77,10 @@ static void run(work *function, const struct call *call, struct result *result)
     size_t i;
 
     for (i = 0; i < LENT_COUNT; i++) {
-        lent.at[i] = lend(&places[i], &call->lent[i], call->kind->word);
+        lent.at[i] = lend(&places[i], &call->lent[i], part_word(call->kind, i));
         lent.length[i] = call->lent[i].length;
     }
-    lent.room = lend(&room, &call->room, call->kind->word);
+    lent.room = lend(&room, &call->room, call->kind->room_word);
     lent.room_length = call->room.length;
     lent.number = call->number;
     result->answer = function(&lent);
@@ -121,7 +133,7 @@ static void print_bytes(const char *name, const struct bytes *bytes)
 {
     size_t i;
 
-    printf("%s (%u bytes) ", name, (unsigned)bytes->length);
+    printf("%s (%u byte%s) ", name, (unsigned)bytes->length, bytes->length == 1 ? "" : "s");
     for (i = 0; i < bytes->length; i++)
         printf("%02X", (unsigned)bytes->at[i]);
     putchar('\n');
@@ -152,11 +164,13 @@ static uint64_t compare(const struct call *call, unsigned long number)
 
     run_it(call->kind->library, call, &ours);
     run_it(call->kind->second, call, &theirs);
-    if (is_same(&ours, &theirs))
+    if (call->kind->judge != NULL && ours.fault == NULL)
+        ours.fault = call->kind->judge(call, &ours, &theirs);
+    if (call->kind->judge != NULL ? ours.fault == NULL : is_same(&ours, &theirs))
         return ours.answer;
     printf("case %lu, %s, differs\n", number, call->kind->name);
-    for (i = 0; call->kind->parts[i] != NULL; i++)
-        print_bytes(call->kind->parts[i], &call->lent[i]);
+    for (i = 0; call->kind->parts[i].name != NULL; i++)
+        print_bytes(call->kind->parts[i].name, &call->lent[i]);
     printf("number %llu\n", (unsigned long long)call->number);
     print_bytes("room before", &call->room);
     print_result("library", &ours);
@@ -164,9 +178,11 @@ static uint64_t compare(const struct call *call, unsigned long number)
     exit(1);
 }
 
+enum { LARGEST = 600 };
+
 static void compare_edition(uint64_t which, size_t room_len)
 {
-    uint8_t ours[PART_MAX], theirs[PART_MAX];
+    uint8_t ours[LARGEST], theirs[LARGEST];
     uint64_t our_answer, their_answer;
 
     memset(ours, GUARD, sizeof ours);
@@ -186,7 +202,7 @@ static void compare_edition(uint64_t which, size_t room_len)
 static void compare_editions(void)
 {
     static const uint64_t which[] = {0, 1, 2, 3, 256, 257, 258, UINT64_C(1) << 32, (UINT64_C(1) << 32) + 1, UINT64_MAX};
-    static const size_t lengths[] = {0, 1, 101, 102, 103, 104, 479, 600};
+    static const size_t lengths[] = {0, 1, 101, 102, 103, 104, 479, LARGEST};
     size_t i, k;
 
     for (i = 0; i < sizeof which / sizeof which[0]; i++) {
@@ -197,12 +213,16 @@ static void compare_editions(void)
 
 /* The run */
 
-/* An index into kinds_compared, by weight. */
-static size_t any_kind(void)
+/* An index into kinds_compared, by weight; KIND_COUNT if there is no such kind. */
+static size_t any_kind(const char *name)
 {
     size_t total = 0;
     size_t i, dice;
 
+    for (i = 0; name != NULL && i < KIND_COUNT && strcmp(name, kinds_compared[i]->name) != 0; i++)
+        continue;
+    if (name != NULL)
+        return i;
     for (i = 0; i < KIND_COUNT; i++)
         total += kinds_compared[i]->weight;
     dice = chance(total);
@@ -224,7 +244,7 @@ static void print_counts(unsigned long counts[KIND_COUNT][256])
     }
 }
 
-static void make_call(struct call *call, const struct comparison *kind)
+static void start_call(struct call *call, const struct comparison *kind)
 {
     size_t i;
 
@@ -233,10 +253,31 @@ static void make_call(struct call *call, const struct comparison *kind)
     call->room.length = 0;
     for (i = 0; i < LENT_COUNT; i++)
         call->lent[i].length = 0;
-    kind->make(call);
 }
 
-static void compare_all(unsigned long count)
+/* These have 1 and on as their number, random ones 0, unless their maker says otherwise. */
+static void compare_fixed(struct call *call, const struct comparison *kind, unsigned long *counts)
+{
+    size_t count = kind->count_fixed == NULL ? 0 : kind->count_fixed();
+    size_t i;
+
+    for (i = 0; i < count; i++) {
+        start_call(call, kind);
+        call->number = i + 1;
+        kind->make_fixed(call, i);
+        counts[compare(call, i) & 0xFF]++;
+    }
+}
+
+/* How far the run is, at each tenth of it. */
+static void tell_progress(unsigned long done, unsigned long count)
+{
+    if (count < REPORTS || done % (count / REPORTS) != 0)
+        return;
+    fprintf(stderr, "compare: %lu of %lu cases, no difference yet\n", done, count);
+}
+
+static void compare_all(unsigned long count, const char *name)
 {
     static unsigned long counts[KIND_COUNT][256];
     static struct call call;
@@ -244,14 +285,20 @@ static void compare_all(unsigned long count)
 
     compare_editions();
     fill_stock();
+    for (i = 0; i < KIND_COUNT; i++) {
+        if (name == NULL || any_kind(name) == i)
+            compare_fixed(&call, kinds_compared[i], counts[i]);
+    }
     for (i = 0; i < count; i++) {
-        size_t kind = any_kind();
+        size_t kind = any_kind(name);
         renew_stock();
-        make_call(&call, kinds_compared[kind]);
+        start_call(&call, kinds_compared[kind]);
+        kinds_compared[kind]->make(&call);
         counts[kind][compare(&call, i) & 0xFF]++;
+        tell_progress(i + 1, count);
     }
     print_counts(counts);
-    printf("%lu cases, no difference\n", count);
+    printf("%lu case%s, no difference\n", count, count == 1 ? "" : "s");
 }
 
 static int is_number(const char *word)
@@ -261,11 +308,13 @@ static int is_number(const char *word)
 
 int main(int count, char **words)
 {
-    if (count != 3 || !is_number(words[1]) || !is_number(words[2])) {
-        fputs("usage: compare SEED COUNT\n", stderr);
+    const char *name = count == 4 ? words[3] : NULL;
+
+    if (count < 3 || count > 4 || !is_number(words[1]) || !is_number(words[2]) || any_kind(name) == KIND_COUNT) {
+        fputs("usage: compare SEED COUNT [KIND]\n", stderr);
         return 2;
     }
     chance_seed(strtoull(words[1], NULL, 10));
-    compare_all(strtoul(words[2], NULL, 10));
+    compare_all(strtoul(words[2], NULL, 10), name);
     return fflush(stdout) != 0 || ferror(stdout) ? 2 : 0;
 }

@@ -4,7 +4,7 @@
 
 #include "material.h"
 
-enum { LENT_COUNT = 4, PART_MAX = 600 };
+enum { LENT_COUNT = 4, PART_MAX = 56000 };
 
 struct bytes {
     size_t length;
@@ -12,6 +12,12 @@ struct bytes {
 };
 
 struct comparison;
+
+struct result {
+    uint64_t answer;
+    struct bytes room;
+    const char *fault;
+};
 
 /* The room holds what it has before the call. */
 struct call {
@@ -32,18 +38,32 @@ struct lent {
 
 typedef uint64_t work(const struct lent *lent);
 
-/* parts names what is lent, with NULL behind the last; word is what an address must be a multiple of. */
+/* The size of a part and its address are a multiple of its word. */
+struct part {
+    const char *name;
+    size_t word;
+};
+
+/* parts says what is lent, with a name NULL behind the last; room_word is that of the room. Where judge is not NULL, it
+   says what is wrong with the library's answer, or NULL; else it has to be the second program's. Where count_fixed is not
+   NULL, so many calls of make_fixed are compared before the random ones. */
 struct comparison {
     const char *name;
-    const char *parts[LENT_COUNT + 1];
-    size_t word;
+    struct part parts[LENT_COUNT + 1];
+    size_t room_word;
     size_t weight;
     work *library;
     work *second;
     void (*make)(struct call *call);
+    const char *(*judge)(const struct call *call, const struct result *ours, const struct result *theirs);
+    size_t (*count_fixed)(void);
+    void (*make_fixed)(struct call *call, size_t which);
 };
 
 extern const struct comparison reading, writing, renumbering, length_fields;
+extern const struct comparison object_places, host_commands, fresher_cards, differences, plans, plan_checks, fronts;
+extern const struct comparison day_counts, day_images, day_finds, day_adds, day_builds;
+extern const struct comparison trees, tree_writings;
 
 /* Material */
 
@@ -65,5 +85,7 @@ void make_edition(struct bytes *edition, const struct stock *entry);
 /* The entry's card or record with no, one or more changes. */
 void make_image(struct bytes *image, const struct stock *entry);
 void make_record(struct bytes *record, const struct stock *entry);
+/* Another card of the entry's table that differs in a few things, accepted as a rule. */
+void make_variation(struct bytes *image, const struct stock *entry);
 
 #endif

@@ -100,11 +100,14 @@ void change_sizes(struct call *call)
     size_t count = 0;
     size_t which;
 
-    while (call->kind->parts[count] != NULL)
+    while (call->kind->parts[count].name != NULL)
         count++;
     while (chance(40) == 0) {
         which = chance(count + 1);
-        change_size(which < count ? &call->lent[which] : &call->room, call->kind->word);
+        if (which < count)
+            change_size(&call->lent[which], call->kind->parts[which].word);
+        else
+            change_size(&call->room, call->kind->room_word);
     }
 }
 
@@ -152,6 +155,19 @@ void make_record(struct bytes *record, const struct stock *entry)
         damage_record(record->at, entry->table);
     if (chance(64) == 0)
         random_bytes(record->at, RECORD_SIZE);
+}
+
+void make_variation(struct bytes *image, const struct stock *entry)
+{
+    uint8_t record[RECORD_SIZE];
+    struct draft draft;
+    size_t changes;
+
+    memcpy(record, entry->record, RECORD_SIZE);
+    for (changes = chance(4); changes > 0; changes--)
+        vary_record(record, entry->table);
+    draft_card(&draft, record);
+    set_bytes(image, draft.image, IMAGE_SIZE);
 }
 
 /* Reading and writing */
@@ -221,11 +237,11 @@ static uint64_t renumbered_by_second(const struct lent *lent)
 }
 
 const struct comparison reading = {
-    "reading", {"edition", "image", NULL}, 1, 12, library_read, read_by_second, make_reading
+    "reading", {{"edition", 1}, {"image", 1}, {NULL, 0}}, 1, 12, library_read, read_by_second, make_reading, NULL, NULL, NULL
 };
 const struct comparison writing = {
-    "writing", {"edition", "record", NULL}, 1, 8, library_write, written_by_second, make_writing
+    "writing", {{"edition", 1}, {"record", 1}, {NULL, 0}}, 1, 8, library_write, written_by_second, make_writing, NULL, NULL, NULL
 };
 const struct comparison renumbering = {
-    "renumber", {"edition", NULL}, 1, 2, library_renumber, renumbered_by_second, make_renumbering
+    "renumber", {{"edition", 1}, {NULL, 0}}, 1, 2, library_renumber, renumbered_by_second, make_renumbering, NULL, NULL, NULL
 };

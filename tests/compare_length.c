@@ -33,5 +33,5 @@ static uint64_t length_by_second(const struct lent *lent)
 }
 
 const struct comparison length_fields = {
-    "length", {"bytes", NULL}, 1, 1, library_length, length_by_second, make_length_field
+    "length", {{"bytes", 1}, {NULL, 0}}, 1, 1, library_length, length_by_second, make_length_field, NULL, NULL, NULL
 };

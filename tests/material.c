@@ -242,6 +242,32 @@ void damage_record(uint8_t *record, const uint8_t *table)
     }
 }
 
+void vary_record(uint8_t *record, const uint8_t *table)
+{
+    size_t row = chance(OBJECT_COUNT);
+    uint8_t *slot = slot_of(record, row);
+
+    switch (chance(6)) {
+    case 0:
+        random_bytes(record + RECORD_FREE + chance(FREE_COUNT), 1);
+        break;
+    case 1:
+        record[0] = 0x82;
+        record[RECORD_LAST] ^= 0xFF;
+        break;
+    case 2:
+        if (row_of_table(table, row).required == 0)
+            set_absent(record, row);
+        break;
+    case 3:
+        chance_fill(record, table, row, permitted_length(table, row));
+        break;
+    default:
+        if (slot[0] != 0)
+            chance_fill(record, table, row, slot[0]);
+    }
+}
+
 /* Cards */
 
 static size_t any_tag_address(const struct stock *stock)

@@ -20,6 +20,8 @@ void random_bytes(uint8_t *bytes, size_t count);
 
 /* One change each. Not every change makes a thing wrong. */
 void damage_table(uint8_t *table);
+/* A row of the record gets another value that its rule takes, or, if it may, is left out; or another byte changes. */
+void vary_record(uint8_t *record, const uint8_t *table);
 void damage_record(uint8_t *record, const uint8_t *table);
 void damage_card(struct stock *stock);
 

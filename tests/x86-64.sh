@@ -4,9 +4,9 @@
 
 mkdir -p target/c
 
-install_cross_compiler() {
-    echo "installing gcc-x86-64-linux-gnu" >&2
-    { apt-get update && apt-get install -y gcc-x86-64-linux-gnu libc6-dev-amd64-cross; } >target/c/install.log 2>&1 ||
+install_package() { # PACKAGE..
+    echo "installing $*" >&2
+    { apt-get update && apt-get install -y "$@"; } >target/c/install.log 2>&1 ||
         { tail -n 20 target/c/install.log >&2; return 1; }
 }
 
@@ -19,18 +19,18 @@ else
     link=-static
     kit=$(dirname "$(dirname "$(rt doc)")")
     emulator=$kit/on/$(uname -m)/toolchain/bin/qemu-x86_64
-    command -v $compiler >/dev/null || install_cross_compiler
+    command -v $compiler >/dev/null || install_package gcc-x86-64-linux-gnu libc6-dev-amd64-cross
 fi
 
 build_library() {
-    echo "proving and building libkvk.a" >&2
-    rt staticlib kvk >target/c/staticlib.log 2>&1 || { tail -n 20 target/c/staticlib.log >&2; return 1; }
+    ./kvk build library
 }
 
 # build PROGRAM SOURCE..: into target/c, with the library.
 build() {
     program=$1
     shift
+    echo "building target/c/$program" >&2
     "$compiler" -std=c99 -O2 -Wall -Wextra -Wpedantic -Wconversion -Wshadow -Werror -Iinclude -Isecond -Itests \
         "$@" target/staticlib/libkvk.a $link -o "target/c/$program"
 }

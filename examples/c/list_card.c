@@ -1,13 +1,13 @@
 /* Lists a card file under the terminal edition:
    list_card FILE
-   Exit status: 0 accepted, 1 refused, 2 nothing listed. */
+   Exit status: 0 accepted, 1 refused, 2 bad usage, 3 it could not be read or written. */
 #include <errno.h>
 #include <stdio.h>
 #include <string.h>
 
 #include "kvk.h"
 
-enum { ACCEPTED, REFUSED, NOTHING_LISTED };
+enum { ACCEPTED, REFUSED, MISUSED, FAILED };
 
 static const uint8_t tags[KVK_SLOT_COUNT] = {
     0x80, 0x81, 0x8F, 0x82, 0x83, 0x90, 0x84, 0x85,
@@ -74,7 +74,7 @@ static int list(const struct input *input)
 
     kvk_edition(KVK_TERMINAL, terminal, sizeof terminal);
     answer = kvk_read(terminal, sizeof terminal, input->bytes, input->length, record, sizeof record);
-    if (answer != 0) {
+    if (kvk_number(answer) != KVK_ACCEPTED) {
         print_refusal(answer);
         return REFUSED;
     }
@@ -89,18 +89,18 @@ int main(int count, char **words)
 
     if (count != 2) {
         fputs("usage: list_card FILE\n", stderr);
-        return NOTHING_LISTED;
+        return MISUSED;
     }
     failed = read_file(words[1], &input);
     if (failed != 0) {
         fprintf(stderr, "list_card: %s: %s\n", words[1], strerror(failed));
-        return NOTHING_LISTED;
+        return FAILED;
     }
     explain_size(words[1], input.length);
     status = list(&input);
     if (fflush(stdout) != 0 || ferror(stdout)) {
         fputs("list_card: cannot write\n", stderr);
-        return NOTHING_LISTED;
+        return FAILED;
     }
     return status;
 }

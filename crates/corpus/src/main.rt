@@ -1,95 +1,52 @@
 // Runs the cases on standard input through the calls of the C interface and writes an answer line for each.
 // Which cases, and what their answers should be, is the second program's: `second cases` and `second answer`.
 // A case that is cut off or malformed ends the run with the line END.
-mod answers;
-mod cases;
-mod foreign;
-
 use libc::STDOUT_FILENO;
 
-// Answers whether the image was whole.
-fn read_image(table: &[u8], image: &mut [u8]) -> bool {
-    if !cases::get(image) {
-        return false;
+// Cards: read, written, numbered.
+fn run_card(kind: u8) -> bool {
+    match kind {
+        b'R' => cases_cards::run_read(),
+        b'W' => cases_cards::run_write(),
+        b'N' => cases_cards::run_renumber(),
+        b'T' => cases_front::run_front(),
+        _ => false,
     }
-    let mut content = [0xA5u8; 479];
-    let answer = kvk::kvk_read(table, image, &mut content);
-    io::write_all(STDOUT_FILENO, b"R");
-    answers::write_answer(answer);
-    if answer == 0 {
-        answers::write_content(&content);
-    }
-    io::write_all(STDOUT_FILENO, b"\n");
-    true
 }
 
-// Answers whether the case was whole.
-fn run_read() -> bool {
-    let mut table = [0u8; 103];
-    if !cases::get_table(&mut table) {
-        return false;
+// An image, or two: places, a host's command, the fresher, the differences, a rewriting.
+fn run_images(kind: u8, room: &mut [u8]) -> bool {
+    match kind {
+        b'P' => cases_places::run_places(room),
+        b'H' => cases_places::run_host(room),
+        b'F' => cases_fresher::run_fresher(room),
+        b'D' => cases_differences::run_differences(room),
+        b'S' => cases_plans::run_rewriting(room, false),
+        b'C' => cases_plans::run_rewriting(room, true),
+        _ => run_card(kind),
     }
-    let length = cases::get_length();
-    if length > cases::LONGEST {
-        return false;
-    }
-    let mut image = [0u8; 600];
-    read_image(&table, &mut image[..length])
 }
 
-fn write_image(table: &[u8], content: &[u8], fill: u8, buffer: &mut [u8]) {
-    cases::fill(buffer, fill);
-    let answer = kvk::kvk_write(table, content, buffer);
-    io::write_all(STDOUT_FILENO, b"W");
-    answers::write_answer(answer);
-    io::write_all(STDOUT_FILENO, b" ");
-    if cases::is_filled(buffer, fill) {
-        io::write_all(STDOUT_FILENO, b"=");
-    } else {
-        answers::write_hex(buffer);
+// A day file.
+fn run_day(kind: u8, room: &mut [u8]) -> bool {
+    match kind {
+        b'K' => cases_days::run_count(),
+        b'I' => cases_days::run_image(),
+        b'Q' => cases_days::run_find(room),
+        b'A' => cases_days::run_add(room),
+        b'B' => cases_days::run_build(),
+        _ => run_images(kind, room),
     }
-    io::write_all(STDOUT_FILENO, b"\n");
 }
 
-// Answers whether the case was whole.
-fn run_write() -> bool {
-    let mut table = [0u8; 103];
-    if !cases::get_table(&mut table) {
-        return false;
+// Foreign cards: a length field, a tree, a tree written back; else one of the others.
+fn run_kind(kind: u8, room: &mut [u8]) -> bool {
+    match kind {
+        b'L' => cases_foreign::run_length(room),
+        b'G' => cases_trees::run_tree(),
+        b'U' => cases_trees::run_tree_write(),
+        _ => run_day(kind, room),
     }
-    let mut content = [0u8; 479];
-    if !cases::get_content(&mut content) {
-        return false;
-    }
-    let length = cases::get_length();
-    let mut fill = [0u8; 1];
-    if length > cases::LONGEST || !cases::get(&mut fill) {
-        return false;
-    }
-    let mut buffer = [0u8; 600];
-    write_image(&table, &content, fill[0], &mut buffer[..length]);
-    true
-}
-
-// Answers whether the case was whole.
-fn run_renumber() -> bool {
-    let mut table = [0u8; 103];
-    if !cases::get_table(&mut table) {
-        return false;
-    }
-    let mut content = [0u8; 479];
-    if !cases::get_content(&mut content) {
-        return false;
-    }
-    let before = content;
-    let answer = kvk::kvk_renumber(&table, &mut content);
-    io::write_all(STDOUT_FILENO, b"N");
-    answers::write_answer(answer);
-    answers::write_number(ground::byte_at(&content, 478) as u64);
-    // No other byte changes: where one did, this line would differ from the second program's.
-    answers::write_number((ground::count_same(&content, &before) < 478) as u64);
-    io::write_all(STDOUT_FILENO, b"\n");
-    true
 }
 
 // Runs one case and answers whether to go on.
@@ -99,17 +56,7 @@ fn run_case() -> bool {
         return false;
     }
     let mut room = [0u8; 600];
-    let is_whole = if kind[0] == b'R' {
-        run_read()
-    } else if kind[0] == b'W' {
-        run_write()
-    } else if kind[0] == b'N' {
-        run_renumber()
-    } else if kind[0] == b'L' {
-        foreign::run_length(&mut room)
-    } else {
-        false
-    };
+    let is_whole = run_kind(kind[0], &mut room);
     if !is_whole {
         io::write_all(STDOUT_FILENO, b"END\n");
     }

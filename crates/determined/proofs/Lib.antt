@@ -1,2 +1,9 @@
 -- No second answer.
 pub mod Determined
+pub mod Places
+pub mod Fresher
+pub mod Differences
+pub mod Front
+pub mod Trees
+pub mod Plans
+pub mod Days

@@ -1,6 +1,6 @@
 // What programs share: a file opened by its name, a file written all or nothing, an edition by its name, and the one that a listing is read under.
 // Which words the command line has, and what is read or written, is the caller's. What fails is said on standard error, by its name.
-// "-" names standard input and standard output; a file that is written appears whole under its name, or not at all.
+// "-" names standard input and standard output; a file that is written appears whole under its name, or not at all, even where the plug is pulled.
 mod words;
 
 use libc::STDIN_FILENO;
@@ -34,15 +34,16 @@ fn write_beside(path: &[u8], bytes: &[u8]) -> bool {
     write_new(&mut room[..end], path, bytes)
 }
 
-// Makes a file by a name of its own, writes it, and gives it its name when all is written.
+// Makes a file by a name of its own, writes it, and gives it its name when all of it is on its device.
 fn write_new(name: &mut [u8], path: &[u8], bytes: &[u8]) -> bool {
     let file = os::create_temp(name);
     if file < 0 {
         return false;
     }
     let is_written = io::write_all(file, bytes);
+    let is_synced = libc::fsync(file) == 0;
     let is_closed = libc::close(file) == 0;
-    if is_written & is_closed & (os::rename(name, path) == 0) {
+    if is_written & is_synced & is_closed & (os::rename(name, path) == 0) {
         return true;
     }
     os::unlink(name);

@@ -1,14 +1,35 @@
 // The C interface: the calls of include/kvk.h, on editions, records and images as lent bytes.
 // Any table, image, record and room may be lent, of whatever size: what has not its size is refused with a number.
 // The number is told even where the room is left: 20 for the room comes before all that is amiss with the card.
+mod comparing;
+mod days;
 mod foreign;
+mod freshness;
+mod hosting;
+mod locating;
+mod printing;
+mod pulling;
 mod renumbering;
 
 use card::Reading;
 use card::Record;
 use card::Refusal;
+pub use comparing::kvk_differences;
+pub use days::kvk_day_add;
+pub use days::kvk_day_build;
+pub use days::kvk_day_count;
+pub use days::kvk_day_find;
+pub use days::kvk_day_image;
 use edition::Edition;
 pub use foreign::kvk_length;
+pub use foreign::kvk_tree;
+pub use foreign::kvk_tree_write;
+pub use freshness::kvk_fresher;
+pub use hosting::kvk_host;
+pub use locating::kvk_places;
+pub use printing::kvk_front;
+pub use pulling::kvk_check_plan;
+pub use pulling::kvk_plan;
 pub use renumbering::kvk_renumber;
 ghost use mathlib.Core.Path.{_≡_};
 ghost use mathlib.Core.Bool.{cond};

@@ -1,5 +1,4 @@
 // batch [EDITION] FILE: lists the cards in a file, one behind the other.
-use crate::words;
 use edition::Edition;
 use libc::STDOUT_FILENO;
 ghost use Prim.Native.Nat.{_<_, _≤_};

@@ -1,8 +1,5 @@
 // list [EDITION] FILE: lists one card.
-use crate::words;
-use crate::wrong;
 use edition::Edition;
-use libc::STDOUT_FILENO;
 ghost use Prim.Native.Nat.{_<_};
 
 // Lists the card in an open file.
@@ -12,14 +9,7 @@ fn list_card(edition: Edition, file: i32) -> u8
     // One byte more than a card has: a card with something behind it is none.
     let mut image = [0u8; 257];
     let length = io::read_full(file, &mut image);
-    let mut room = [0u8; 521];
-    let size = listing::list(edition, &image[..length], &mut room);
-    let is_written = io::write_all(STDOUT_FILENO, &room[..size]);
-    if is_written & (room[0] == b'R') {
-        wrong::say(edition, &image[..length]);
-        return words::REFUSED;
-    }
-    words::written(is_written)
+    words::list_image(edition, &image[..length])
 }
 
 // Lists the card in the file that word i names.

@@ -5,8 +5,6 @@ mod batch;
 mod length;
 mod list;
 mod show;
-mod words;
-mod wrong;
 
 ghost use Prim.Native.Nat.{_<_};
 
@@ -25,6 +23,30 @@ fn run(name: &[u8]) -> u8
     }
     if ground::is_same(name, b"show") {
         return show::run();
+    }
+    if ground::is_same(name, b"day") {
+        return tool_day::run();
+    }
+    if ground::is_same(name, b"tree") {
+        return tool_tree::run();
+    }
+    if ground::is_same(name, b"front") {
+        return tool_front::run();
+    }
+    if ground::is_same(name, b"diff") {
+        return tool_diff::run();
+    }
+    if ground::is_same(name, b"plan") {
+        return tool_plan::run();
+    }
+    if ground::is_same(name, b"check-plan") {
+        return tool_plan::run_check();
+    }
+    if ground::is_same(name, b"fresher") {
+        return tool_fresher::run();
+    }
+    if ground::is_same(name, b"host") {
+        return tool_host::run();
     }
     words::misused(b"there is no such command")
 }

@@ -1,6 +1,4 @@
 // show [EDITION] FILE: a card for people: the edition by its number, then each object by its name.
-use crate::words;
-use crate::wrong;
 use card::Object;
 use card::Record;
 use edition::Edition;
@@ -12,7 +10,7 @@ fn show_line(tag: u8, bytes: &[u8], length: usize) {
     if length > bytes.len() {
         return;
     }
-    wrong::put_name(STDOUT_FILENO, tag);
+    words::put_name(STDOUT_FILENO, tag);
     io::write_all(STDOUT_FILENO, b": ");
     io::write_all(STDOUT_FILENO, &bytes[..length]);
     io::write_all(STDOUT_FILENO, b"\n");
@@ -56,7 +54,7 @@ fn show_card(edition: Edition, file: i32) -> u8
     let reading = reader::read(edition, &image[..length]);
     let refusal = reading.refusal;
     if refusal.number != 0 {
-        wrong::say(edition, &image[..length]);
+        words::say_refused(edition, &image[..length]);
         return words::REFUSED;
     }
     let content = reading.content;

@@ -1,0 +1,76 @@
+-- No second answer of the day file, stated as in `Determined`. Assumes nothing.
+use mathlib.Core.Path.{_≡_, sym, _∙_}
+use denote.Ref.{now}
+use Rattle.day_index.proofs.is_below.Reads as is-below
+use Rattle.day_index.proofs.put.Reads as put-entry
+use Rattle.day_cards.proofs.entry_of.Reads as entry-of
+use Rattle.day_cards.proofs.card_at.Reads as card-at
+use Rattle.day.proofs.count.Reads as day-count
+use Rattle.day.proofs.image_start.Reads as day-image-start
+use Rattle.day.proofs.image_at.Reads as day-image-at
+use Rattle.day.proofs.find.Reads as day-find
+use Rattle.day.proofs.add.Reads as day-add
+use Rattle.day.proofs.build.Reads as day-build
+use Rattle.kvk.proofs.kvk_day_count.Reads as kvk-day-count
+use Rattle.kvk.proofs.kvk_day_image.Reads as kvk-day-image
+use Rattle.kvk.proofs.kvk_day_find.Reads as kvk-day-find
+use Rattle.kvk.proofs.kvk_day_add.Reads as kvk-day-add
+use Rattle.kvk.proofs.kvk_day_build.Reads as kvk-day-build
+
+-- the day file
+pub is-below-once : (κs : _) (a : _) (z y : _) (e f : _) → is-below.Post κs a z e → is-below.Post κs a y f → z ≡ y
+is-below-once κs a z y e f p q = p ∙ sym q
+
+pub put-entry-room-once : (κs : _) (a : _) (z y : _) (e f : _) → put-entry.Post κs a z e → put-entry.Post κs a y f → now (e .0) ≡ now (f .0)
+put-entry-room-once κs a z y e f p q = p ∙ sym q
+
+pub entry-of-once : (κs : _) (a : _) (z y : _) (e f : _) → entry-of.Post κs a z e → entry-of.Post κs a y f → z ≡ y
+entry-of-once κs a z y e f p q = p ∙ sym q
+
+pub card-at-once : (κs : _) (a : _) (z y : _) (e f : _) → card-at.Post κs a z e → card-at.Post κs a y f → z ≡ y
+card-at-once κs a z y e f p q = p ∙ sym q
+
+pub day-count-once : (κs : _) (a : _) (z y : _) (e f : _) → day-count.Post κs a z e → day-count.Post κs a y f → z ≡ y
+day-count-once κs a z y e f p q = p ∙ sym q
+
+pub day-image-start-once : (κs : _) (a : _) (z y : _) (e f : _) → day-image-start.Post κs a z e → day-image-start.Post κs a y f → z ≡ y
+day-image-start-once κs a z y e f p q = p ∙ sym q
+
+pub day-image-at-once : (κs : _) (a : _) (z y : _) (e f : _) → day-image-at.Post κs a z e → day-image-at.Post κs a y f → now z ≡ now y
+day-image-at-once κs a z y e f p q = p ∙ sym q
+
+pub day-find-once : (κs : _) (a : _) (z y : _) (e f : _) → day-find.Post κs a z e → day-find.Post κs a y f → z ≡ y
+day-find-once κs a z y e f p q = p ∙ sym q
+
+pub day-add-once : (κs : _) (a : _) (z y : _) (e f : _) → day-add.Post κs a z e → day-add.Post κs a y f → z ≡ y
+day-add-once κs a z y e f p q = p .0 ∙ sym (q .0)
+
+pub day-add-room-once : (κs : _) (a : _) (z y : _) (e f : _) → day-add.Post κs a z e → day-add.Post κs a y f → now (e .1 .1 .0) ≡ now (f .1 .1 .0)
+day-add-room-once κs a z y e f p q = p .1 ∙ sym (q .1)
+
+pub day-build-once : (κs : _) (a : _) (z y : _) (e f : _) → day-build.Post κs a z e → day-build.Post κs a y f → z ≡ y
+day-build-once κs a z y e f p q = p .0 ∙ sym (q .0)
+
+pub day-build-room-once : (κs : _) (a : _) (z y : _) (e f : _) → day-build.Post κs a z e → day-build.Post κs a y f → now (e .1 .0) ≡ now (f .1 .0)
+day-build-room-once κs a z y e f p q = p .1 ∙ sym (q .1)
+
+pub kvk-day-count-once : (κs : _) (a : _) (z y : _) (e f : _) → kvk-day-count.Post κs a z e → kvk-day-count.Post κs a y f → z ≡ y
+kvk-day-count-once κs a z y e f p q = p ∙ sym q
+
+pub kvk-day-image-once : (κs : _) (a : _) (z y : _) (e f : _) → kvk-day-image.Post κs a z e → kvk-day-image.Post κs a y f → z ≡ y
+kvk-day-image-once κs a z y e f p q = p ∙ sym q
+
+pub kvk-day-find-once : (κs : _) (a : _) (z y : _) (e f : _) → kvk-day-find.Post κs a z e → kvk-day-find.Post κs a y f → z ≡ y
+kvk-day-find-once κs a z y e f p q = p ∙ sym q
+
+pub kvk-day-add-once : (κs : _) (a : _) (z y : _) (e f : _) → kvk-day-add.Post κs a z e → kvk-day-add.Post κs a y f → z ≡ y
+kvk-day-add-once κs a z y e f p q = p .0 ∙ sym (q .0)
+
+pub kvk-day-add-room-once : (κs : _) (a : _) (z y : _) (e f : _) → kvk-day-add.Post κs a z e → kvk-day-add.Post κs a y f → now (e .1 .1 .0) ≡ now (f .1 .1 .0)
+kvk-day-add-room-once κs a z y e f p q = p .1 ∙ sym (q .1)
+
+pub kvk-day-build-once : (κs : _) (a : _) (z y : _) (e f : _) → kvk-day-build.Post κs a z e → kvk-day-build.Post κs a y f → z ≡ y
+kvk-day-build-once κs a z y e f p q = p .0 ∙ sym (q .0)
+
+pub kvk-day-build-room-once : (κs : _) (a : _) (z y : _) (e f : _) → kvk-day-build.Post κs a z e → kvk-day-build.Post κs a y f → now (e .1 .0) ≡ now (f .1 .0)
+kvk-day-build-room-once κs a z y e f p q = p .1 ∙ sym (q .1)

@@ -1,0 +1,27 @@
+-- No second answer of the fresher of two cards, stated as in `Determined`. Assumes nothing.
+use mathlib.Core.Path.{_≡_, sym, _∙_}
+use denote.Ref.{now}
+use Rattle.fresher.proofs.compare.Reads as compare
+use Rattle.fresher.proofs.name.Reads as name
+use Rattle.fresher.proofs.fresher_name.Reads as fresher-name
+use Rattle.fresher.proofs.write_fresher.Reads as write-fresher
+use Rattle.kvk.proofs.kvk_fresher.Reads as kvk-fresher
+
+pub fresher-compare-once : (κs : _) (a : _) (z y : _) (e f : _) → compare.Post κs a z e → compare.Post κs a y f → z ≡ y
+fresher-compare-once κs a z y e f p q = p ∙ sym q
+
+-- a part is given back by its bytes
+pub name-once : (κs : _) (a : _) (z y : _) (e f : _) → name.Post κs a z e → name.Post κs a y f → now z ≡ now y
+name-once κs a z y e f p q = p ∙ sym q
+
+pub fresher-name-once : (κs : _) (a : _) (z y : _) (e f : _) → fresher-name.Post κs a z e → fresher-name.Post κs a y f → now z ≡ now y
+fresher-name-once κs a z y e f p q = p ∙ sym q
+
+pub write-fresher-room-once : (κs : _) (a : _) (z y : _) (e f : _) → write-fresher.Post κs a z e → write-fresher.Post κs a y f → now (e .1 .0) ≡ now (f .1 .0)
+write-fresher-room-once κs a z y e f p q = p ∙ sym q
+
+pub kvk-fresher-once : (κs : _) (a : _) (z y : _) (e f : _) → kvk-fresher.Post κs a z e → kvk-fresher.Post κs a y f → z ≡ y
+kvk-fresher-once κs a z y e f p q = p .0 ∙ sym (q .0)
+
+pub kvk-fresher-room-once : (κs : _) (a : _) (z y : _) (e f : _) → kvk-fresher.Post κs a z e → kvk-fresher.Post κs a y f → now (e .1 .1 .1 .0) ≡ now (f .1 .1 .1 .0)
+kvk-fresher-room-once κs a z y e f p q = p .1 ∙ sym (q .1)

@@ -1,0 +1,33 @@
+-- No second answer of the tree of a foreign card, stated as in `Determined`. Assumes nothing.
+use denote.Ref.{now}
+use mathlib.Core.Path.{_≡_, sym, ap, _∙_}
+use Rattle.kvk.specs.Foreign.{packedBack}
+use Rattle.tree_back.proofs.RoundTrips
+use Rattle.tree.proofs.list_tree.Reads as list-tree
+use Rattle.tree_back.proofs.write_back.Reads as write-back
+use Rattle.kvk.proofs.kvk_tree.Reads as kvk-tree
+use Rattle.kvk.proofs.kvk_tree_write.Reads as kvk-tree-write
+
+pub list-tree-once : (κs : _) (a : _) (z y : _) (e f : _) → list-tree.Post κs a z e → list-tree.Post κs a y f → z ≡ y
+list-tree-once κs a z y e f p q = p .0 ∙ sym (q .0)
+
+pub list-tree-room-once : (κs : _) (a : _) (z y : _) (e f : _) → list-tree.Post κs a z e → list-tree.Post κs a y f → now (e .1 .0) ≡ now (f .1 .0)
+list-tree-room-once κs a z y e f p q = p .1 ∙ sym (q .1)
+
+pub write-back-once : (κs : _) (a : _) (z y : _) (e f : _) → write-back.Post κs a z e → write-back.Post κs a y f → z ≡ y
+write-back-once κs a z y e f p q = RoundTrips.back-once _ _ _ z y _ _ p q .0
+
+pub write-back-room-once : (κs : _) (a : _) (z y : _) (e f : _) → write-back.Post κs a z e → write-back.Post κs a y f → now (e .1 .1 .0) ≡ now (f .1 .1 .0)
+write-back-room-once κs a z y e f p q = RoundTrips.back-once _ _ _ z y _ _ p q .1
+
+pub kvk-tree-once : (κs : _) (a : _) (z y : _) (e f : _) → kvk-tree.Post κs a z e → kvk-tree.Post κs a y f → z ≡ y
+kvk-tree-once κs a z y e f p q = p .0 ∙ sym (q .0)
+
+pub kvk-tree-room-once : (κs : _) (a : _) (z y : _) (e f : _) → kvk-tree.Post κs a z e → kvk-tree.Post κs a y f → now (e .1 .0) ≡ now (f .1 .0)
+kvk-tree-room-once κs a z y e f p q = p .1 ∙ sym (q .1)
+
+pub kvk-tree-write-once : (κs : _) (a : _) (z y : _) (e f : _) → kvk-tree-write.Post κs a z e → kvk-tree-write.Post κs a y f → z ≡ y
+kvk-tree-write-once κs a z y e f p q = p .packed ∙ ap packedBack (RoundTrips.back-once _ _ _ (p .answer) (q .answer) _ _ (p .back) (q .back) .0) ∙ sym (q .packed)
+
+pub kvk-tree-write-room-once : (κs : _) (a : _) (z y : _) (e f : _) → kvk-tree-write.Post κs a z e → kvk-tree-write.Post κs a y f → now (e .1 .1 .0) ≡ now (f .1 .1 .0)
+kvk-tree-write-room-once κs a z y e f p q = RoundTrips.back-once _ _ _ (p .answer) (q .answer) _ _ (p .back) (q .back) .1

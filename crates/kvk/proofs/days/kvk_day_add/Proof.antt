@@ -1,0 +1,21 @@
+-- `kvk::days::kvk_day_add` meets its contract. Assumes nothing.
+use mathlib.Core.Path.{ap, _∙_}
+use Rattle.kvk.specs.Days.{dayPacked}
+use borrow.Author.Needs.{needs}
+use Rattle.kvk.proofs.days.kvk_day_add.Statement.{statement}
+use Rattle.kvk.proofs.days.kvk_day_add.Tie as tie
+
+add-requires : tie.Need-add-requires
+add-requires c κs = search needs
+
+packed-day-requires : tie.Need-packed-day-requires
+packed-day-requires c κs = search needs
+
+same-length : tie.Need-same-length
+same-length c = search needs
+
+returns : tie.Need-returns
+returns c = (c .packed-day .ensures ∙ ap dayPacked (c .before .before .before .add .ensures .0), c .before .before .before .add .ensures .1)
+
+pub kvk-day-add-spec : {M : Type 1} → statement M
+kvk-day-add-spec = tie.close (tie.spec add-requires packed-day-requires same-length returns)
