@@ -5,7 +5,7 @@ use libc::STDOUT_FILENO;
 
 // Whether the first card, the list and what the second has make the second.
 fn is_rebuilt(table: &[u8], first: &[u8], entries: &[u32], second: &[u8]) -> bool {
-    let edition = wire::edition_of(table);
+    let edition = wire_tables::edition_of(table);
     let other = reader::read(edition, second).content;
     let mut room = [0u8; 256];
     rebuilding::rebuild(edition, first, entries, other, &mut room);

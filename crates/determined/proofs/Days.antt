@@ -11,10 +11,15 @@ use Rattle.day.proofs.image_at.Reads as day-image-at
 use Rattle.day.proofs.find.Reads as day-find
 use Rattle.day.proofs.add.Reads as day-add
 use Rattle.day.proofs.build.Reads as day-build
+use Rattle.calls_days.proofs.day_count.Reads as calls-day-count
 use Rattle.kvk.proofs.kvk_day_count.Reads as kvk-day-count
+use Rattle.calls_days.proofs.day_image.Reads as calls-day-image
 use Rattle.kvk.proofs.kvk_day_image.Reads as kvk-day-image
+use Rattle.calls_days.proofs.day_find.Reads as calls-day-find
 use Rattle.kvk.proofs.kvk_day_find.Reads as kvk-day-find
+use Rattle.calls_days.proofs.day_add.Reads as calls-day-add
 use Rattle.kvk.proofs.kvk_day_add.Reads as kvk-day-add
+use Rattle.calls_days.proofs.day_build.Reads as calls-day-build
 use Rattle.kvk.proofs.kvk_day_build.Reads as kvk-day-build
 
 -- the day file
@@ -57,20 +62,41 @@ day-build-room-once κs a z y e f p q = p .1 ∙ sym (q .1)
 pub kvk-day-count-once : (κs : _) (a : _) (z y : _) (e f : _) → kvk-day-count.Post κs a z e → kvk-day-count.Post κs a y f → z ≡ y
 kvk-day-count-once κs a z y e f p q = p ∙ sym q
 
+pub calls-day-count-once : (κs : _) (a : _) (z y : _) (e f : _) → calls-day-count.Post κs a z e → calls-day-count.Post κs a y f → z ≡ y
+calls-day-count-once κs a z y e f p q = p ∙ sym q
+
 pub kvk-day-image-once : (κs : _) (a : _) (z y : _) (e f : _) → kvk-day-image.Post κs a z e → kvk-day-image.Post κs a y f → z ≡ y
 kvk-day-image-once κs a z y e f p q = p ∙ sym q
+
+pub calls-day-image-once : (κs : _) (a : _) (z y : _) (e f : _) → calls-day-image.Post κs a z e → calls-day-image.Post κs a y f → z ≡ y
+calls-day-image-once κs a z y e f p q = p ∙ sym q
 
 pub kvk-day-find-once : (κs : _) (a : _) (z y : _) (e f : _) → kvk-day-find.Post κs a z e → kvk-day-find.Post κs a y f → z ≡ y
 kvk-day-find-once κs a z y e f p q = p ∙ sym q
 
+pub calls-day-find-once : (κs : _) (a : _) (z y : _) (e f : _) → calls-day-find.Post κs a z e → calls-day-find.Post κs a y f → z ≡ y
+calls-day-find-once κs a z y e f p q = p ∙ sym q
+
 pub kvk-day-add-once : (κs : _) (a : _) (z y : _) (e f : _) → kvk-day-add.Post κs a z e → kvk-day-add.Post κs a y f → z ≡ y
 kvk-day-add-once κs a z y e f p q = p .0 ∙ sym (q .0)
+
+pub calls-day-add-once : (κs : _) (a : _) (z y : _) (e f : _) → calls-day-add.Post κs a z e → calls-day-add.Post κs a y f → z ≡ y
+calls-day-add-once κs a z y e f p q = p .0 ∙ sym (q .0)
 
 pub kvk-day-add-room-once : (κs : _) (a : _) (z y : _) (e f : _) → kvk-day-add.Post κs a z e → kvk-day-add.Post κs a y f → now (e .1 .1 .0) ≡ now (f .1 .1 .0)
 kvk-day-add-room-once κs a z y e f p q = p .1 ∙ sym (q .1)
 
+pub calls-day-add-room-once : (κs : _) (a : _) (z y : _) (e f : _) → calls-day-add.Post κs a z e → calls-day-add.Post κs a y f → now (e .1 .1 .0) ≡ now (f .1 .1 .0)
+calls-day-add-room-once κs a z y e f p q = p .1 ∙ sym (q .1)
+
 pub kvk-day-build-once : (κs : _) (a : _) (z y : _) (e f : _) → kvk-day-build.Post κs a z e → kvk-day-build.Post κs a y f → z ≡ y
 kvk-day-build-once κs a z y e f p q = p .0 ∙ sym (q .0)
 
+pub calls-day-build-once : (κs : _) (a : _) (z y : _) (e f : _) → calls-day-build.Post κs a z e → calls-day-build.Post κs a y f → z ≡ y
+calls-day-build-once κs a z y e f p q = p .0 ∙ sym (q .0)
+
 pub kvk-day-build-room-once : (κs : _) (a : _) (z y : _) (e f : _) → kvk-day-build.Post κs a z e → kvk-day-build.Post κs a y f → now (e .1 .0) ≡ now (f .1 .0)
 kvk-day-build-room-once κs a z y e f p q = p .1 ∙ sym (q .1)
+
+pub calls-day-build-room-once : (κs : _) (a : _) (z y : _) (e f : _) → calls-day-build.Post κs a z e → calls-day-build.Post κs a y f → now (e .1 .0) ≡ now (f .1 .0)
+calls-day-build-room-once κs a z y e f p q = p .1 ∙ sym (q .1)

@@ -48,15 +48,20 @@ use Rattle.renumber.proofs.renumber.Reads as renumber
 use Rattle.checks.proofs.objects_size.Reads as objects-size
 use Rattle.writer.proofs.write.Reads as write
 use Rattle.listing.proofs.list.Reads as list
-use Rattle.wire.proofs.edition_of.Reads as edition-of
-use Rattle.wire.proofs.write_table.Reads as write-table
-use Rattle.wire.proofs.record_of.Reads as record-of
-use Rattle.wire.proofs.write_record.Reads as write-record
+use Rattle.wire_tables.proofs.edition_of.Reads as edition-of
+use Rattle.wire_tables.proofs.write_table.Reads as write-table
+use Rattle.wire_records.proofs.record_of.Reads as record-of
+use Rattle.wire_records.proofs.write_record.Reads as write-record
 use Rattle.wire.proofs.pack.Reads as pack
+use Rattle.calls_cards.proofs.read.Reads as calls-read
 use Rattle.kvk.proofs.kvk_read.Reads as kvk-read
+use Rattle.calls_cards.proofs.write.Reads as calls-write
 use Rattle.kvk.proofs.kvk_write.Reads as kvk-write
+use Rattle.calls_cards.proofs.renumber.Reads as calls-renumber
 use Rattle.kvk.proofs.kvk_renumber.Reads as kvk-renumber
+use Rattle.calls_cards.proofs.edition.Reads as calls-edition
 use Rattle.kvk.proofs.kvk_edition.Reads as kvk-edition
+use Rattle.calls_foreign.proofs.length.Reads as calls-length
 use Rattle.kvk.proofs.kvk_length.Reads as kvk-length
 
 -- `Post` is what a contract ensures: of the lifetimes, the arguments, the answer, and what is lent back at exit
@@ -216,26 +221,50 @@ put-decimal-room-once κs a z y e f p q = p .1 ∙ sym (q .1)
 pub kvk-read-once : (κs : _) (a : _) (z y : _) (e f : _) → kvk-read.Post κs a z e → kvk-read.Post κs a y f → z ≡ y
 kvk-read-once κs a z y e f p q = p .0 ∙ sym (q .0)
 
+pub calls-read-once : (κs : _) (a : _) (z y : _) (e f : _) → calls-read.Post κs a z e → calls-read.Post κs a y f → z ≡ y
+calls-read-once κs a z y e f p q = p .0 ∙ sym (q .0)
+
 pub kvk-read-room-once : (κs : _) (a : _) (z y : _) (e f : _) → kvk-read.Post κs a z e → kvk-read.Post κs a y f → now (e .1 .1 .0) ≡ now (f .1 .1 .0)
 kvk-read-room-once κs a z y e f p q = p .1 ∙ sym (q .1)
+
+pub calls-read-room-once : (κs : _) (a : _) (z y : _) (e f : _) → calls-read.Post κs a z e → calls-read.Post κs a y f → now (e .1 .1 .0) ≡ now (f .1 .1 .0)
+calls-read-room-once κs a z y e f p q = p .1 ∙ sym (q .1)
 
 pub kvk-write-once : (κs : _) (a : _) (z y : _) (e f : _) → kvk-write.Post κs a z e → kvk-write.Post κs a y f → z ≡ y
 kvk-write-once κs a z y e f p q = p .0 ∙ sym (q .0)
 
+pub calls-write-once : (κs : _) (a : _) (z y : _) (e f : _) → calls-write.Post κs a z e → calls-write.Post κs a y f → z ≡ y
+calls-write-once κs a z y e f p q = p .0 ∙ sym (q .0)
+
 pub kvk-write-room-once : (κs : _) (a : _) (z y : _) (e f : _) → kvk-write.Post κs a z e → kvk-write.Post κs a y f → now (e .1 .1 .0) ≡ now (f .1 .1 .0)
 kvk-write-room-once κs a z y e f p q = p .1 ∙ sym (q .1)
+
+pub calls-write-room-once : (κs : _) (a : _) (z y : _) (e f : _) → calls-write.Post κs a z e → calls-write.Post κs a y f → now (e .1 .1 .0) ≡ now (f .1 .1 .0)
+calls-write-room-once κs a z y e f p q = p .1 ∙ sym (q .1)
 
 pub kvk-renumber-once : (κs : _) (a : _) (z y : _) (e f : _) → kvk-renumber.Post κs a z e → kvk-renumber.Post κs a y f → z ≡ y
 kvk-renumber-once κs a z y e f p q = p .0 ∙ sym (q .0)
 
+pub calls-renumber-once : (κs : _) (a : _) (z y : _) (e f : _) → calls-renumber.Post κs a z e → calls-renumber.Post κs a y f → z ≡ y
+calls-renumber-once κs a z y e f p q = p .0 ∙ sym (q .0)
+
 pub kvk-renumber-room-once : (κs : _) (a : _) (z y : _) (e f : _) → kvk-renumber.Post κs a z e → kvk-renumber.Post κs a y f → now (e .1 .0) ≡ now (f .1 .0)
 kvk-renumber-room-once κs a z y e f p q = p .1 ∙ sym (q .1)
+
+pub calls-renumber-room-once : (κs : _) (a : _) (z y : _) (e f : _) → calls-renumber.Post κs a z e → calls-renumber.Post κs a y f → now (e .1 .0) ≡ now (f .1 .0)
+calls-renumber-room-once κs a z y e f p q = p .1 ∙ sym (q .1)
 
 pub kvk-edition-once : (κs : _) (a : _) (z y : _) (e f : _) → kvk-edition.Post κs a z e → kvk-edition.Post κs a y f → z ≡ y
 kvk-edition-once κs a z y e f p q = p .0 ∙ sym (q .0)
 
+pub calls-edition-once : (κs : _) (a : _) (z y : _) (e f : _) → calls-edition.Post κs a z e → calls-edition.Post κs a y f → z ≡ y
+calls-edition-once κs a z y e f p q = p .0 ∙ sym (q .0)
+
 pub kvk-edition-room-once : (κs : _) (a : _) (z y : _) (e f : _) → kvk-edition.Post κs a z e → kvk-edition.Post κs a y f → now (e .1 .0) ≡ now (f .1 .0)
 kvk-edition-room-once κs a z y e f p q = p .1 ∙ sym (q .1)
+
+pub calls-edition-room-once : (κs : _) (a : _) (z y : _) (e f : _) → calls-edition.Post κs a z e → calls-edition.Post κs a y f → now (e .1 .0) ≡ now (f .1 .0)
+calls-edition-room-once κs a z y e f p q = p .1 ∙ sym (q .1)
 
 pub list-once : (κs : _) (a : _) (z y : _) (e f : _) → list.Post κs a z e → list.Post κs a y f → z ≡ y
 list-once κs a z y e f p q = p .0 ∙ sym (q .0)
@@ -258,3 +287,6 @@ put-length-room-once κs a z y e f p q = p .1 ∙ sym (q .1)
 
 pub kvk-length-once : (κs : _) (a : _) (z y : _) (e f : _) → kvk-length.Post κs a z e → kvk-length.Post κs a y f → z ≡ y
 kvk-length-once κs a z y e f p q = p ∙ sym q
+
+pub calls-length-once : (κs : _) (a : _) (z y : _) (e f : _) → calls-length.Post κs a z e → calls-length.Post κs a y f → z ≡ y
+calls-length-once κs a z y e f p q = p ∙ sym q

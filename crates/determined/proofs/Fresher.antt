@@ -5,6 +5,7 @@ use Rattle.fresher.proofs.compare.Reads as compare
 use Rattle.fresher.proofs.name.Reads as name
 use Rattle.fresher.proofs.fresher_name.Reads as fresher-name
 use Rattle.fresher.proofs.write_fresher.Reads as write-fresher
+use Rattle.calls_pairs.proofs.fresher.Reads as calls-fresher
 use Rattle.kvk.proofs.kvk_fresher.Reads as kvk-fresher
 
 pub fresher-compare-once : (κs : _) (a : _) (z y : _) (e f : _) → compare.Post κs a z e → compare.Post κs a y f → z ≡ y
@@ -23,5 +24,11 @@ write-fresher-room-once κs a z y e f p q = p ∙ sym q
 pub kvk-fresher-once : (κs : _) (a : _) (z y : _) (e f : _) → kvk-fresher.Post κs a z e → kvk-fresher.Post κs a y f → z ≡ y
 kvk-fresher-once κs a z y e f p q = p .0 ∙ sym (q .0)
 
+pub calls-fresher-once : (κs : _) (a : _) (z y : _) (e f : _) → calls-fresher.Post κs a z e → calls-fresher.Post κs a y f → z ≡ y
+calls-fresher-once κs a z y e f p q = p .0 ∙ sym (q .0)
+
 pub kvk-fresher-room-once : (κs : _) (a : _) (z y : _) (e f : _) → kvk-fresher.Post κs a z e → kvk-fresher.Post κs a y f → now (e .1 .1 .1 .0) ≡ now (f .1 .1 .1 .0)
 kvk-fresher-room-once κs a z y e f p q = p .1 ∙ sym (q .1)
+
+pub calls-fresher-room-once : (κs : _) (a : _) (z y : _) (e f : _) → calls-fresher.Post κs a z e → calls-fresher.Post κs a y f → now (e .1 .1 .1 .0) ≡ now (f .1 .1 .1 .0)
+calls-fresher-room-once κs a z y e f p q = p .1 ∙ sym (q .1)

@@ -12,7 +12,9 @@ use Rattle.lookup.proofs.part_at.Reads as part-at
 use Rattle.host.proofs.host.Reads as host
 use Rattle.wire.proofs.write_places.Reads as write-places
 use Rattle.wire.proofs.pack_value.Reads as pack-value
+use Rattle.calls_cards.proofs.places.Reads as calls-places
 use Rattle.kvk.proofs.kvk_places.Reads as kvk-places
+use Rattle.calls_seen.proofs.host.Reads as calls-host
 use Rattle.kvk.proofs.kvk_host.Reads as kvk-host
 
 pub is-there-once : (κs : _) (a : _) (z y : _) (e f : _) → is-there.Post κs a z e → is-there.Post κs a y f → z ≡ y
@@ -47,11 +49,23 @@ host-room-once κs a z y e f p q = p .1 ∙ sym (q .1)
 pub kvk-places-once : (κs : _) (a : _) (z y : _) (e f : _) → kvk-places.Post κs a z e → kvk-places.Post κs a y f → z ≡ y
 kvk-places-once κs a z y e f p q = p .0 ∙ sym (q .0)
 
+pub calls-places-once : (κs : _) (a : _) (z y : _) (e f : _) → calls-places.Post κs a z e → calls-places.Post κs a y f → z ≡ y
+calls-places-once κs a z y e f p q = p .0 ∙ sym (q .0)
+
 pub kvk-places-room-once : (κs : _) (a : _) (z y : _) (e f : _) → kvk-places.Post κs a z e → kvk-places.Post κs a y f → now (e .1 .1 .0) ≡ now (f .1 .1 .0)
 kvk-places-room-once κs a z y e f p q = p .1 ∙ sym (q .1)
+
+pub calls-places-room-once : (κs : _) (a : _) (z y : _) (e f : _) → calls-places.Post κs a z e → calls-places.Post κs a y f → now (e .1 .1 .0) ≡ now (f .1 .1 .0)
+calls-places-room-once κs a z y e f p q = p .1 ∙ sym (q .1)
 
 pub kvk-host-once : (κs : _) (a : _) (z y : _) (e f : _) → kvk-host.Post κs a z e → kvk-host.Post κs a y f → z ≡ y
 kvk-host-once κs a z y e f p q = p .0 ∙ sym (q .0)
 
+pub calls-host-once : (κs : _) (a : _) (z y : _) (e f : _) → calls-host.Post κs a z e → calls-host.Post κs a y f → z ≡ y
+calls-host-once κs a z y e f p q = p .0 ∙ sym (q .0)
+
 pub kvk-host-room-once : (κs : _) (a : _) (z y : _) (e f : _) → kvk-host.Post κs a z e → kvk-host.Post κs a y f → now (e .1 .1 .1 .0) ≡ now (f .1 .1 .1 .0)
 kvk-host-room-once κs a z y e f p q = p .1 ∙ sym (q .1)
+
+pub calls-host-room-once : (κs : _) (a : _) (z y : _) (e f : _) → calls-host.Post κs a z e → calls-host.Post κs a y f → now (e .1 .1 .1 .0) ≡ now (f .1 .1 .1 .0)
+calls-host-room-once κs a z y e f p q = p .1 ∙ sym (q .1)

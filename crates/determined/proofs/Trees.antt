@@ -1,11 +1,13 @@
 -- No second answer of the tree of a foreign card, stated as in `Determined`. Assumes nothing.
 use denote.Ref.{now}
 use mathlib.Core.Path.{_≡_, sym, ap, _∙_}
-use Rattle.kvk.specs.Foreign.{packedBack}
+use Rattle.calls_foreign.specs.Foreign.{packedBack}
 use Rattle.tree_back.proofs.RoundTrips
 use Rattle.tree.proofs.list_tree.Reads as list-tree
 use Rattle.tree_back.proofs.write_back.Reads as write-back
+use Rattle.calls_foreign.proofs.tree.Reads as calls-tree
 use Rattle.kvk.proofs.kvk_tree.Reads as kvk-tree
+use Rattle.calls_foreign.proofs.tree_write.Reads as calls-tree-write
 use Rattle.kvk.proofs.kvk_tree_write.Reads as kvk-tree-write
 
 pub list-tree-once : (κs : _) (a : _) (z y : _) (e f : _) → list-tree.Post κs a z e → list-tree.Post κs a y f → z ≡ y
@@ -23,11 +25,23 @@ write-back-room-once κs a z y e f p q = RoundTrips.back-once _ _ _ z y _ _ p q 
 pub kvk-tree-once : (κs : _) (a : _) (z y : _) (e f : _) → kvk-tree.Post κs a z e → kvk-tree.Post κs a y f → z ≡ y
 kvk-tree-once κs a z y e f p q = p .0 ∙ sym (q .0)
 
+pub calls-tree-once : (κs : _) (a : _) (z y : _) (e f : _) → calls-tree.Post κs a z e → calls-tree.Post κs a y f → z ≡ y
+calls-tree-once κs a z y e f p q = p .0 ∙ sym (q .0)
+
 pub kvk-tree-room-once : (κs : _) (a : _) (z y : _) (e f : _) → kvk-tree.Post κs a z e → kvk-tree.Post κs a y f → now (e .1 .0) ≡ now (f .1 .0)
 kvk-tree-room-once κs a z y e f p q = p .1 ∙ sym (q .1)
+
+pub calls-tree-room-once : (κs : _) (a : _) (z y : _) (e f : _) → calls-tree.Post κs a z e → calls-tree.Post κs a y f → now (e .1 .0) ≡ now (f .1 .0)
+calls-tree-room-once κs a z y e f p q = p .1 ∙ sym (q .1)
 
 pub kvk-tree-write-once : (κs : _) (a : _) (z y : _) (e f : _) → kvk-tree-write.Post κs a z e → kvk-tree-write.Post κs a y f → z ≡ y
 kvk-tree-write-once κs a z y e f p q = p .packed ∙ ap packedBack (RoundTrips.back-once _ _ _ (p .answer) (q .answer) _ _ (p .back) (q .back) .0) ∙ sym (q .packed)
 
+pub calls-tree-write-once : (κs : _) (a : _) (z y : _) (e f : _) → calls-tree-write.Post κs a z e → calls-tree-write.Post κs a y f → z ≡ y
+calls-tree-write-once κs a z y e f p q = p .packed ∙ ap packedBack (RoundTrips.back-once _ _ _ (p .answer) (q .answer) _ _ (p .back) (q .back) .0) ∙ sym (q .packed)
+
 pub kvk-tree-write-room-once : (κs : _) (a : _) (z y : _) (e f : _) → kvk-tree-write.Post κs a z e → kvk-tree-write.Post κs a y f → now (e .1 .1 .0) ≡ now (f .1 .1 .0)
 kvk-tree-write-room-once κs a z y e f p q = RoundTrips.back-once _ _ _ (p .answer) (q .answer) _ _ (p .back) (q .back) .1
+
+pub calls-tree-write-room-once : (κs : _) (a : _) (z y : _) (e f : _) → calls-tree-write.Post κs a z e → calls-tree-write.Post κs a y f → now (e .1 .1 .0) ≡ now (f .1 .1 .0)
+calls-tree-write-room-once κs a z y e f p q = RoundTrips.back-once _ _ _ (p .answer) (q .answer) _ _ (p .back) (q .back) .1

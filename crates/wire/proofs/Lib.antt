@@ -1,6 +1,2 @@
--- Laws that the proofs of `wire` share, and that what is written comes back.
-pub mod Sizes
-pub mod RowsAt
+-- A law that the proofs of `wire` share.
 pub mod Pairs
-pub mod EditionsBack
-pub mod RecordsBack

@@ -1,5 +1,3 @@
--- What goes over a wire: editions, records, places and refusals as bytes.
-pub mod Tables
-pub mod Records
+-- What goes over a wire: places and refusals as bytes.
 pub mod PlaceBytes
 pub mod Answers

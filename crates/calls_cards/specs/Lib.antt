@@ -1,0 +1,3 @@
+-- The calls as definitions.
+pub mod Calls
+pub mod PlaceCalls

@@ -1,0 +1,31 @@
+// The places of an image's objects, as lent bytes.
+use card::Places;
+use card::Refusal;
+ghost use mathlib.Core.Path.{_≡_};
+ghost use Rattle.wire.specs.Answers.{packed};
+ghost use Rattle.calls_cards.specs.PlaceCalls.{tablePlaces, kvkPlaces, kvkPlacesRoom};
+
+fn places_of(table: &[u8], image: &[u8]) -> Places
+    ensures { λ r. ⌜ r ≡ tablePlaces (now (table .entry)) (now (image .entry)) ⌝ }
+{
+    if image.len() != 256 {
+        return Places::refused(Refusal::new(1, 0, 0));
+    }
+    if table.len() != 103 {
+        return Places::refused(Refusal::new(2, 0, 0));
+    }
+    reader::places(wire_tables::edition_of(table), image)
+}
+
+// Fills a room of 32 bytes with the start and the length of each object of an image.
+pub fn places(table: &[u8], image: &[u8], room: &mut [u8]) -> u64
+    ensures { λ r. ⌜ r ≡ packed (kvkPlaces (now (table .entry)) (now (image .entry)) (now (room .entry))) ⌝ }
+    ensures { λ _. ⌜ now (room .exit) ≡ kvkPlacesRoom (now (table .entry)) (now (image .entry)) (now (room .entry)) ⌝ }
+{
+    if room.len() != 32 {
+        return wire::pack(Refusal::new(20, 0, 0));
+    }
+    let places = places_of(table, image);
+    wire::write_places(places, room);
+    wire::pack(places.refusal)
+}

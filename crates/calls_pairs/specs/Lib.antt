@@ -1,0 +1,3 @@
+-- The calls as definitions.
+pub mod Comparing
+pub mod Fresher

@@ -1,0 +1,2 @@
+-- A record as 479 bytes, and back.
+pub mod Records

@@ -1,0 +1,4 @@
+-- Laws that the proofs share, and that what is written comes back.
+pub mod Sizes
+pub mod RowsAt
+pub mod EditionsBack
