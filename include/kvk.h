@@ -193,13 +193,32 @@ uint64_t kvk_tree_write(const uint16_t *listing, size_t listing_len,
                         const uint8_t *values, size_t values_len,
                         uint8_t *room, size_t room_len);
 
+/* Whether the inner edition is nested in the outer one: kvk_value is 1 if it is, else 0. Nested is:
+   both are well formed, and in each row the outer permits each length that the inner permits,
+   takes each value of these lengths that the inner takes, and requires the object only if the
+   inner does. The editions' numbers may differ. Nothing is refused: kvk_number is always 0. Where
+   it is not nested, kvk_place is the clause, and kvk_tag the tag of the first row in card order
+   that is not nested; of its clauses the first is told. The last two clauses come before all rows,
+   the inner edition first, and have tag 0. Where it is nested, place and tag are 0. */
+enum {
+    KVK_LENGTH_NOT_NESTED = 1,    /* the inner row permits a length that the outer does not */
+    KVK_VALUE_NOT_NESTED = 2,     /* the inner rule takes a value of a permitted inner length
+                                     that the outer rule does not take */
+    KVK_REQUIRED_NOT_NESTED = 3,  /* the outer requires the object, the inner does not */
+    KVK_INNER_NOT_FORMED = 4,     /* the inner edition is not well formed or not 103 bytes */
+    KVK_OUTER_NOT_FORMED = 5      /* the outer edition is not well formed or not 103 bytes */
+};
+uint64_t kvk_nested(const uint8_t *inner, size_t inner_len,
+                    const uint8_t *outer, size_t outer_len);
+
 /* Reads a length field: one byte up to 127, '81' and one byte from 128, '82' and two bytes from 256 on; what lies
    behind it does not matter. Answers the length and the bytes used, see kvk_length_value and kvk_length_used, or
    refuses: 70, then 71, then 72; length and bytes used are then 0. */
 uint64_t kvk_length(const uint8_t *bytes, size_t bytes_len);
 
 /* The numbers of an answer. The place is that of reading; when writing it is 0, but with 9 the
-   index within the value. Where none is told, place and tag are 0. */
+   index within the value. Where none is told, place and tag are 0; kvk_nested alone tells them
+   with the number 0. */
 /* From docs/NUMBERS.md, by tests/numbers. */
 enum {
     /* Nothing: accepted, or done. Told in all calls. */

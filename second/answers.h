@@ -22,5 +22,6 @@ uint64_t answer_day_add(const struct test_case *test_case, FILE *out);
 uint64_t answer_day_build(const struct test_case *test_case, FILE *out);
 uint64_t answer_tree(const struct test_case *test_case, FILE *out);
 uint64_t answer_tree_write(const struct test_case *test_case, FILE *out);
+uint64_t answer_nested(const struct test_case *test_case, FILE *out);
 
 #endif

@@ -254,6 +254,13 @@ static int meaning_is_taken(unsigned rule, const uint8_t *value, size_t length)
     }
 }
 
+int second_takes(unsigned rule, const uint8_t *value, size_t length)
+{
+    if ((rule == RULE_BIRTH && length != 8) || (rule == RULE_EXPIRY && length != 4))
+        return 0;
+    return first_outside(rule, value, length) == length && meaning_is_taken(rule, value, length);
+}
+
 /* Sums */
 
 static int group_is_too_long(const uint8_t *lengths, const uint8_t *alone)

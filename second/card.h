@@ -50,6 +50,9 @@ uint64_t second_write(const uint8_t *edition, size_t edition_len,
 uint64_t second_renumber(const uint8_t *edition, size_t edition_len,
                          uint8_t *record, size_t record_len);
 
+/* Whether a rule takes a value of 1 to 28 bytes. */
+int second_takes(unsigned rule, const uint8_t *value, size_t length);
+
 /* Fills a table: 1 terminal, 2 issue. */
 uint64_t second_edition(uint64_t which, uint8_t *room, size_t room_len);
 

@@ -3,6 +3,8 @@
 
 #include <string.h>
 
+#include "list.h"
+
 /* Where the next field of each sort goes, or comes from. */
 struct cursor {
     size_t edition;
@@ -289,7 +291,7 @@ void tally_cases(FILE *in, FILE *out)
     if (nowhere == NULL)
         return;
     while ((got = get_case(in, &test_case)) == 1)
-        counts[test_case.kind][answer_case(&test_case, nowhere) & 0xFF]++;
+        counts[test_case.kind][counted_by(answer_case(&test_case, nowhere))]++;
     fclose(nowhere);
     for (kind = kinds; kind->letter != 0; kind++) {
         for (number = 0; number < 256; number++) {

@@ -144,4 +144,5 @@ void write_corpus(uint64_t seed)
     front_cases();
     day_cases();
     tree_cases();
+    nested_cases();
 }

@@ -47,6 +47,7 @@ void plan_cases(void);
 void front_cases(void);
 void day_cases(void);
 void tree_cases(void);
+void nested_cases(void);
 
 void write_corpus(uint64_t seed);
 

@@ -21,5 +21,6 @@ const struct kind kinds[] = {
     {'B', "lmf", answer_day_build},
     {'G', "lmf", answer_tree},
     {'U', "llmf", answer_tree_write},
+    {'E', "ee", answer_nested},
     {0, "", NULL}
 };

@@ -46,3 +46,10 @@ void list_image(FILE *out, const uint8_t *table, const uint8_t *image, size_t im
     else
         list_refusal(out, answer);
 }
+
+unsigned counted_by(uint64_t answer)
+{
+    unsigned number = (unsigned)(answer & 0xFF);
+
+    return number != 0 ? number : (unsigned)(answer >> 8 & 0xFF);
+}

@@ -14,4 +14,7 @@ void list_refusal(FILE *out, uint64_t answer);
 /* Writes "number place TT shortest longest". */
 void print_answer(FILE *out, uint64_t answer);
 
+/* What answers are counted by: the number, or without one the place, which nesting alone has then. */
+unsigned counted_by(uint64_t answer);
+
 #endif

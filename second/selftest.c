@@ -533,6 +533,8 @@ int main(int count, char **words)
     test_fronts();
     test_days();
     test_trees();
+    test_formed();
+    test_nested();
     for (int i = 1; i < count; i++)
         test_file(words[i]);
     printf("selftest: %lu checks, %lu failures\n", checks, failures);

@@ -24,5 +24,7 @@ void test_plans(void);
 void test_fronts(void);
 void test_days(void);
 void test_trees(void);
+void test_formed(void);
+void test_nested(void);
 
 #endif

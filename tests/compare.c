@@ -18,7 +18,7 @@ static const struct comparison *const kinds_compared[] = {
     &reading, &writing, &renumbering, &length_fields, &object_places, &host_commands, &fresher_cards,
     &differences, &plans, &plan_checks, &fronts,
     &day_counts, &day_images, &day_finds, &day_adds, &day_builds,
-    &trees, &tree_writings
+    &trees, &tree_writings, &nestings
 };
 
 enum { KIND_COUNT = sizeof kinds_compared / sizeof kinds_compared[0] };
@@ -265,7 +265,7 @@ static void compare_fixed(struct call *call, const struct comparison *kind, unsi
         start_call(call, kind);
         call->number = i + 1;
         kind->make_fixed(call, i);
-        counts[compare(call, i) & 0xFF]++;
+        counts[counted_by(compare(call, i))]++;
     }
 }
 
@@ -294,7 +294,7 @@ static void compare_all(unsigned long count, const char *name)
         renew_stock();
         start_call(&call, kinds_compared[kind]);
         kinds_compared[kind]->make(&call);
-        counts[kind][compare(&call, i) & 0xFF]++;
+        counts[kind][counted_by(compare(&call, i))]++;
         tell_progress(i + 1, count);
     }
     print_counts(counts);

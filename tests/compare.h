@@ -63,7 +63,7 @@ struct comparison {
 extern const struct comparison reading, writing, renumbering, length_fields;
 extern const struct comparison object_places, host_commands, fresher_cards, differences, plans, plan_checks, fronts;
 extern const struct comparison day_counts, day_images, day_finds, day_adds, day_builds;
-extern const struct comparison trees, tree_writings;
+extern const struct comparison trees, tree_writings, nestings;
 
 /* Material */
 

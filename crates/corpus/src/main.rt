@@ -3,13 +3,14 @@
 // A case that is cut off or malformed ends the run with the line END.
 use libc::STDOUT_FILENO;
 
-// Cards: read, written, numbered.
+// Cards: read, written, numbered, printed; and two tables, one in the other.
 fn run_card(kind: u8) -> bool {
     match kind {
         b'R' => cases_cards::run_read(),
         b'W' => cases_cards::run_write(),
         b'N' => cases_cards::run_renumber(),
         b'T' => cases_front::run_front(),
+        b'E' => cases_nested::run_nested(),
         _ => false,
     }
 }

@@ -5,7 +5,6 @@ pub mod ReadComplete
 pub mod Accepts
 pub mod AnyAccepted
 pub mod NestedLaws
-pub mod NestedTest
 pub mod Writes
 pub mod ReadingSays
 pub mod WritingSays

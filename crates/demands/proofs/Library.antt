@@ -20,7 +20,8 @@ use Rattle.card.specs.Frame.{startOf}
 use Rattle.card.specs.Reading.{Answer, accepted, refused, answer, answerOf, reading}
 use Rattle.card.specs.Refusing.{writeRefusal}
 use Rattle.card.specs.Writing.{recordRefusal, bufferAfter}
-use Rattle.demands.specs.Nested.{Nested, FirstUnmet}
+use Rattle.nesting.specs.Nested.{Nested}
+use Rattle.demands.specs.Unmet.{FirstUnmet}
 use Rattle.demands.specs.Demands.{Accepts, Refuses, LentEdition, LentRecord, ReadingSays, Demand1, Demand2, InnerReads, same, first, Demand3, Demands, libraryReader, libraryWriter}
 use Rattle.demands.proofs.Accepts.{reads}
 use Rattle.demands.proofs.ReadComplete.{objects-start}

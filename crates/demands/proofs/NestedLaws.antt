@@ -20,7 +20,8 @@ use Rattle.card.specs.Frame.{startOf, objectsIn}
 use Rattle.card.specs.Reading.{accepted, refused, answer}
 use Rattle.card.proofs.Chains.{answer-by, stopped-first}
 use Rattle.ground.proofs.Lists.{true-false}
-use Rattle.demands.specs.Nested.{Within, NestedRows, no-rows, one-row, Nested, FirstUnmet, here, later}
+use Rattle.nesting.specs.Nested.{Within, NestedRows, no-rows, one-row, Nested}
+use Rattle.demands.specs.Unmet.{FirstUnmet, here, later}
 use Rattle.card.proofs.Walks.{unlessMet, appraise, fault-met, met-fault}
 use Rattle.card.proofs.Seventeen.{withEight, Table, table-of, walk-values}
 use Rattle.card.proofs.LastRow.{met-length}

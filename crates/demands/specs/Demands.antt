@@ -17,7 +17,8 @@ use Rattle.card.specs.Layout.{objectsAt, layout}
 use Rattle.card.specs.Rules.{objectRows, AllMet, Allowed, Meets}
 use Rattle.card.specs.Reading.{reading}
 use Rattle.card.specs.Writing.{recordRefusal, bufferAfter}
-use Rattle.demands.specs.Nested.{Nested, FirstUnmet}
+use Rattle.nesting.specs.Nested.{Nested}
+use Rattle.demands.specs.Unmet.{FirstUnmet}
 
 abbrev pub Reader : Type 0
 Reader = Edition → List ℕ → Reading

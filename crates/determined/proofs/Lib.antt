@@ -7,3 +7,4 @@ pub mod Front
 pub mod Trees
 pub mod Plans
 pub mod Days
+pub mod Nestings

@@ -19,6 +19,7 @@ ghost use Rattle.calls_days.specs.Days.{dayPacked};
 ghost use Rattle.lengths.specs.Lengths.{lengthRead, lengthTold};
 ghost use Rattle.calls_foreign.specs.Foreign.{PackedBack, packedLength, packedTree};
 ghost use Rattle.tree.specs.Answers.{treeAnswer, treeRoom};
+ghost use Rattle.calls_tables.specs.Nestings.{packedNesting, tablesNesting};
 
 // Reads an image into a record of 479 bytes, under a table of 103 bytes.
 #[no_mangle]
@@ -188,4 +189,12 @@ pub extern "C" fn kvk_tree_write(words: &[u16], values: &[u8], room: &mut [u8]) 
     ensures { λ r. ⌜ PackedBack (now (words .entry)) (now (values .entry)) (now (room .entry)) r (now (room .exit)) ⌝ }
 {
     calls_foreign::tree_write(words, values, room)
+}
+
+// Whether the edition of the inner table is nested in that of the outer: the value is 1 for yes; else the clause that fails is the place, and the row's tag the tag.
+#[no_mangle]
+pub extern "C" fn kvk_nested(inner: &[u8], outer: &[u8]) -> u64
+    ensures { λ r. ⌜ r ≡ packedNesting (tablesNesting (now (inner .entry)) (now (outer .entry))) ⌝ }
+{
+    calls_tables::nested(inner, outer)
 }

@@ -1,5 +1,5 @@
--- One edition nested in another, and the first row that a content does not meet.
-use Prim.Native.Nat.{ℕ, _+_}
+-- One edition nested in another.
+use Prim.Native.Nat.{ℕ}
 use mathlib.Core.Path.{_≡_}
 use mathlib.Core.Bool.{true}
 use mathlib.Core.List.{List, [], _∷_}
@@ -11,10 +11,6 @@ use Rattle.rules.specs.declared.values.Verdict.the-variants.{Takes}
 use Rattle.edition.specs.Sets.{permitted}
 use Rattle.rules.specs.Values.{judged}
 use Rattle.edition.specs.Rows.{formedOf}
-use Rattle.card.specs.declared.Refusal.{Refusal}
-use Rattle.card.specs.Layout.{object}
-use Rattle.card.specs.Rules.{Entry, RowMet, fault}
-use Rattle.card.specs.Walk.{faultAt}
 
 -- each inner length is an outer one; whatever value of an inner length the inner rule takes, the outer takes; what the outer requires the inner requires
 pub record Within (inner outer : Row) : Type 0 where
@@ -31,10 +27,3 @@ pub record Nested (i o : Edition) : Type 0 where
   pub inner : formedOf i ≡ Well
   pub outer : formedOf o ≡ Well
   pub rows : NestedRows (i .rows) (o .rows)
-
--- x is what the first row in card order that is not met is refused with, where the objects of the values stand from `at` on
-pub data FirstUnmet : List Entry → ℕ → List (List ℕ) → Refusal → Type 0 where
-  here : {r : Entry} {v : List ℕ} {rs : List Entry} {vs : List (List ℕ)} {at : ℕ}
-      → (RowMet (r .row) v → ⊥) → FirstUnmet (r ∷ rs) at (v ∷ vs) (faultAt r at (fault (r .row) v))
-  later : {r : Entry} {v : List ℕ} {rs : List Entry} {vs : List (List ℕ)} {at : ℕ} {x : Refusal}
-      → RowMet (r .row) v → FirstUnmet rs (at + length (object (r .tag) v)) vs x → FirstUnmet (r ∷ rs) at (v ∷ vs) x

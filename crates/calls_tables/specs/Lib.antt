@@ -1,0 +1,2 @@
+-- The call as definitions.
+pub mod Nestings

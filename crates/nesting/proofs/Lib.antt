@@ -1,0 +1,6 @@
+-- The decision is nesting.
+pub mod Lengths
+pub mod Sound
+pub mod Samples
+pub mod Decided
+pub mod Steps

@@ -1,0 +1,2 @@
+-- What is amiss with an edition.
+pub mod Clauses
