@@ -23,5 +23,9 @@ uint64_t answer_day_build(const struct test_case *test_case, FILE *out);
 uint64_t answer_tree(const struct test_case *test_case, FILE *out);
 uint64_t answer_tree_write(const struct test_case *test_case, FILE *out);
 uint64_t answer_nested(const struct test_case *test_case, FILE *out);
+uint64_t answer_sweep(const struct test_case *test_case, FILE *out);
+uint64_t answer_pair_sweep(const struct test_case *test_case, FILE *out);
+uint64_t answer_record_sweep(const struct test_case *test_case, FILE *out);
+uint64_t answer_table_sweep(const struct test_case *test_case, FILE *out);
 
 #endif

@@ -21,6 +21,16 @@ static void print_record(FILE *out, const uint8_t *record)
     fprintf(out, " %u", behind);
 }
 
+static unsigned count_not_0(const uint8_t *record)
+{
+    unsigned count = 0;
+    size_t i;
+
+    for (i = 0; i < RECORD_SIZE; i++)
+        count += record[i] != 0;
+    return count;
+}
+
 uint64_t answer_read(const struct test_case *test_case, FILE *out)
 {
     const struct span *image = &test_case->spans[0];
@@ -34,6 +44,8 @@ uint64_t answer_read(const struct test_case *test_case, FILE *out)
         putc(' ', out);
         print_record(out, record);
         fprintf(out, " %u", (unsigned)record[RECORD_NUMBER]);
+    } else {
+        fprintf(out, " %u", count_not_0(record));
     }
     return answer;
 }

@@ -6,7 +6,7 @@
 
 #include "card.h"
 
-enum { LENT_MAX = 600, LONG_MAX = 4200, WORDS_MAX = 300, EDITION_FIELDS = 2, NUMBER_FIELDS = 2, SPAN_FIELDS = 3 };
+enum { LENT_MAX = 600, LONG_MAX = 4200, WORDS_MAX = 300, EDITION_FIELDS = 2, NUMBER_FIELDS = 3, SPAN_FIELDS = 3 };
 
 struct edition {
     uint8_t selector;

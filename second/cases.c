@@ -146,3 +146,9 @@ void write_corpus(uint64_t seed)
     tree_cases();
     nested_cases();
 }
+
+void write_sweeps(void)
+{
+    set_up_editions();
+    sweep_cases();
+}

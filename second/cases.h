@@ -48,7 +48,9 @@ void front_cases(void);
 void day_cases(void);
 void tree_cases(void);
 void nested_cases(void);
+void sweep_cases(void);
 
 void write_corpus(uint64_t seed);
+void write_sweeps(void);
 
 #endif

@@ -169,13 +169,15 @@ static void put_filler(struct draft *draft, uint8_t last)
 
 void draft_finish(struct draft *draft, const uint8_t *record)
 {
-    size_t begin = draft->body_length > 127 || draft->long_form ? 33 : 32;
+    size_t behind = draft->long_form != 0 ? draft->long_form : draft->body_length > 127;
+    size_t begin = 32 + behind;
     size_t i;
 
     memset(draft->image, 0x20, IMAGE_SIZE);
     put_head(draft, record);
     draft->image[30] = 0x60;
-    draft->image[31] = 0x81;
+    memset(draft->image + 31, 0, behind);
+    draft->image[31] = (uint8_t)(0x80 + behind);
     draft->image[begin - 1] = (uint8_t)draft->body_length;
     for (i = 0; i < draft->body_length; i++)
         put(draft, begin + i, draft->body[i]);

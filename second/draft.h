@@ -5,14 +5,15 @@
 #include "card.h"
 
 /* A template under way and the image made of it. tag_at and checksum_at are indexes into
-   the body until draft_finish, then addresses; checksum_at 0 says there is none. */
+   the body until draft_finish, then addresses; checksum_at 0 says there is none. long_form is how many
+   bytes stand behind '81', '82' or '83' in the template's length field, needed or not; 0: as it should be. */
 struct draft {
     uint8_t body[400];
     size_t body_length;
     size_t tag_at[ROW_COUNT];
     size_t checksum_at;
     size_t end;
-    int long_form;
+    size_t long_form;
     uint8_t image[IMAGE_SIZE];
 };
 

@@ -22,5 +22,9 @@ const struct kind kinds[] = {
     {'G', "lmf", answer_tree},
     {'U', "llmf", answer_tree_write},
     {'E', "ee", answer_nested},
+    {'V', "esnnn", answer_sweep},
+    {'M', "esnnn", answer_pair_sweep},
+    {'O', "ernn", answer_record_sweep},
+    {'X', "es", answer_table_sweep},
     {0, "", NULL}
 };

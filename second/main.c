@@ -105,7 +105,7 @@ static int samples(const char *folder)
 static int usage(void)
 {
     fputs("second list [terminal] | batch [terminal|issue] | front [with] | tree | grow SEED | samples DIR\n"
-          "     | cases SEED | answer | tally | pick NUMBER\n", stderr);
+          "     | cases SEED | sweeps | answer | tally | pick NUMBER\n", stderr);
     return 2;
 }
 
@@ -115,6 +115,8 @@ static int run_on_cases(int count, char **words)
 
     if (strcmp(words[1], "cases") == 0 && has_number)
         write_corpus(strtoull(words[2], NULL, 10));
+    else if (strcmp(words[1], "sweeps") == 0)
+        write_sweeps();
     else if (strcmp(words[1], "answer") == 0)
         answer_cases(stdin, stdout);
     else if (strcmp(words[1], "tally") == 0)

@@ -1,6 +1,7 @@
 /* Compares the library with the second program over random cases, up to the first difference:
-   compare SEED COUNT [KIND]
-   With a kind, as it stands in the table that is printed, only such cases are compared.
+   compare SEED COUNT [FROM] [KIND]
+   The cases have numbers from FROM on, or from 0. Seed and number make the case, so a run can go on where another ended, and
+   one case can be tried again. With a kind, as it stands in the table that is printed, only such cases are compared.
    Exit status: 0 no difference, 1 a difference, 2 bad usage. */
 #include "compare.h"
 
@@ -12,7 +13,7 @@
 #include "kvk.h"
 #include "list.h"
 
-enum { MARGIN = 64, GUARD = 0x5A, LENDING = 16, REPORTS = 10 };
+enum { MARGIN = 64, GUARD = 0x5A, LENDING = 16, REPORTS = 10, BLOCK = 100000 };
 
 static const struct comparison *const kinds_compared[] = {
     &reading, &writing, &renumbering, &length_fields, &object_places, &host_commands, &fresher_cards,
@@ -270,32 +271,60 @@ static void compare_fixed(struct call *call, const struct comparison *kind, unsi
 }
 
 /* How far the run is, at each tenth of it. */
-static void tell_progress(unsigned long done, unsigned long count)
+static void tell_progress(unsigned long done, unsigned long count, unsigned long next)
 {
     if (count < REPORTS || done % (count / REPORTS) != 0)
         return;
-    fprintf(stderr, "compare: %lu of %lu cases, no difference yet\n", done, count);
+    fprintf(stderr, "compare: %lu of %lu cases, no difference yet; the next has number %lu\n", done, count, next);
 }
 
-static void compare_all(unsigned long count, const char *name)
+static void compare_all_fixed(struct call *call, const char *name, unsigned long counts[KIND_COUNT][256])
+{
+    size_t i;
+
+    fill_stock();
+    fill_pool();
+    for (i = 0; i < KIND_COUNT; i++) {
+        if (name == NULL || any_kind(name) == i)
+            compare_fixed(call, kinds_compared[i], counts[i]);
+    }
+}
+
+/* The kind of the case with this number, and the stock as it finds it if that of the number before is there. Each block has
+   its own stock from its first case on, so that no more than a block has to be gone through to get to a number. */
+static size_t prepare_case(uint64_t seed, unsigned long number, const char *name)
+{
+    size_t kind;
+
+    if (number % BLOCK == 0) {
+        chance_seed((seed << 40) + (UINT64_C(1) << 39) + number / BLOCK);
+        fill_stock();
+        fill_pool();
+    }
+    chance_seed((seed << 40) + number);
+    kind = any_kind(name);
+    renew_stock();
+    return kind;
+}
+
+static void compare_all(uint64_t seed, unsigned long count, unsigned long from, const char *name)
 {
     static unsigned long counts[KIND_COUNT][256];
     static struct call call;
-    unsigned long i;
+    unsigned long number;
 
+    chance_seed(seed);
     compare_editions();
-    fill_stock();
-    for (i = 0; i < KIND_COUNT; i++) {
-        if (name == NULL || any_kind(name) == i)
-            compare_fixed(&call, kinds_compared[i], counts[i]);
-    }
-    for (i = 0; i < count; i++) {
-        size_t kind = any_kind(name);
-        renew_stock();
+    if (from == 0)
+        compare_all_fixed(&call, name, counts);
+    for (number = from - from % BLOCK; number < from; number++)
+        prepare_case(seed, number, name);
+    for (number = from; number < from + count; number++) {
+        size_t kind = prepare_case(seed, number, name);
         start_call(&call, kinds_compared[kind]);
         kinds_compared[kind]->make(&call);
-        counts[kind][counted_by(compare(&call, i))]++;
-        tell_progress(i + 1, count);
+        counts[kind][counted_by(compare(&call, number))]++;
+        tell_progress(number - from + 1, count, number + 1);
     }
     print_counts(counts);
     printf("%lu case%s, no difference\n", count, count == 1 ? "" : "s");
@@ -308,13 +337,13 @@ static int is_number(const char *word)
 
 int main(int count, char **words)
 {
-    const char *name = count == 4 ? words[3] : NULL;
+    int has_from = count > 3 && is_number(words[3]);
+    const char *name = count > 3 + has_from ? words[3 + has_from] : NULL;
 
-    if (count < 3 || count > 4 || !is_number(words[1]) || !is_number(words[2]) || any_kind(name) == KIND_COUNT) {
-        fputs("usage: compare SEED COUNT [KIND]\n", stderr);
+    if (count < 3 || count > 4 + has_from || !is_number(words[1]) || !is_number(words[2]) || any_kind(name) == KIND_COUNT) {
+        fputs("usage: compare SEED COUNT [FROM] [KIND]\n", stderr);
         return 2;
     }
-    chance_seed(strtoull(words[1], NULL, 10));
-    compare_all(strtoul(words[2], NULL, 10), name);
+    compare_all(strtoull(words[1], NULL, 10), strtoul(words[2], NULL, 10), has_from ? strtoul(words[3], NULL, 10) : 0, name);
     return fflush(stdout) != 0 || ferror(stdout) ? 2 : 0;
 }

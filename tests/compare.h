@@ -71,6 +71,8 @@ extern const struct comparison trees, tree_writings, nestings;
 extern uint8_t terminal_table[TABLE_SIZE], issue_table[TABLE_SIZE], wide_table[TABLE_SIZE];
 
 void fill_stock(void);
+/* The cards of day files, once there is a stock. */
+void fill_pool(void);
 /* Now and then an entry is made anew. */
 void renew_stock(void);
 const struct stock *any_stock(void);

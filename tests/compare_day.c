@@ -13,7 +13,7 @@ static uint8_t pool[POOL][IMAGE_SIZE];
 static uint8_t pool_numbers[POOL][1 + NUMBER_SIZE];
 
 /* Cards that terminal accepts; many have one of a few insured numbers. */
-static void fill_pool(void)
+void fill_pool(void)
 {
     static const char *const numbers[] = {"123456", "1234560", "123456789012", "000000", "999999999999"};
     uint8_t record[RECORD_SIZE];
@@ -44,8 +44,6 @@ static void make_images(struct bytes *images, size_t count)
 {
     size_t i;
 
-    if (pool_numbers[0][0] == 0)
-        fill_pool();
     for (i = 0; i < count; i++)
         memcpy(images->at + i * IMAGE_SIZE, pool[chance(POOL)], IMAGE_SIZE);
     images->length = count * IMAGE_SIZE;

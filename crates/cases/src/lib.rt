@@ -8,6 +8,7 @@ pub use lines::write_answer;
 pub use lines::write_content;
 pub use lines::write_hex;
 pub use lines::write_number;
+pub use lines::write_other;
 pub use lines::write_room;
 pub use lines::write_start;
 pub use parts::LONGEST;

@@ -57,6 +57,11 @@ fn count_other(bytes: &[u8], byte: u8) -> u64
     count
 }
 
+// Writes how many bytes are another one.
+pub fn write_other(bytes: &[u8], byte: u8) {
+    write_number(count_other(bytes, byte));
+}
+
 // Writes the first bytes of a room, a sign where there are none, and how many of the others are not the fill.
 pub fn write_start(room: &[u8], length: usize, fill: u8) {
     io::write_all(STDOUT_FILENO, b" ");

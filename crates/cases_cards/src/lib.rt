@@ -14,6 +14,8 @@ fn read_image(table: &[u8], image: &mut [u8]) -> bool {
     cases::write_answer(answer);
     if answer == 0 {
         cases::write_content(&content);
+    } else {
+        cases::write_other(&content, 0);
     }
     io::write_all(STDOUT_FILENO, b"\n");
     true

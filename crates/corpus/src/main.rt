@@ -40,13 +40,24 @@ fn run_day(kind: u8, room: &mut [u8]) -> bool {
     }
 }
 
+// Sweeps: each value of a byte.
+fn run_sweep(kind: u8, room: &mut [u8]) -> bool {
+    match kind {
+        b'V' => cases_sweeps::run_sweep(room),
+        b'M' => cases_sweeps::run_pair_sweep(room),
+        b'O' => cases_sweeps::run_record_sweep(),
+        b'X' => cases_sweeps::run_table_sweep(room),
+        _ => run_day(kind, room),
+    }
+}
+
 // Foreign cards: a length field, a tree, a tree written back; else one of the others.
 fn run_kind(kind: u8, room: &mut [u8]) -> bool {
     match kind {
         b'L' => cases_foreign::run_length(room),
         b'G' => cases_trees::run_tree(),
         b'U' => cases_trees::run_tree_write(),
-        _ => run_day(kind, room),
+        _ => run_sweep(kind, room),
     }
 }
 
