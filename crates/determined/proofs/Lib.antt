@@ -8,3 +8,4 @@ pub mod Trees
 pub mod Plans
 pub mod Days
 pub mod Nestings
+pub mod TableTexts

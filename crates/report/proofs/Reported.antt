@@ -16,7 +16,7 @@ use Rattle.edition.specs.declared.Formed.the-variants.{Well, Bad, Unnumbered}
 use Rattle.edition.specs.Sets.{only}
 use Rattle.edition.specs.Rows.{byRule, rowFormed, formedFrom, andNumber, formedOf}
 use Rattle.report.specs.declared.Finding.{Finding}
-use Rattle.report.specs.Clauses.{firstFailing, setClauses, ruleClauses, clauseOf, told, reportFrom, withNumber, reportOf, formedBy}
+use Rattle.report.specs.Clauses.{firstFailing, clauseOf, told, reportFrom, withNumber, reportOf, formedBy}
 
 -- ---- of a row, by its tests: a b c of the set; q required; x y z that the set is {1}, {8}, {4}
 abbrev first : Rule → Bool → Bool → Bool → Bool → Bool → Bool → Bool → Bool → ℕ

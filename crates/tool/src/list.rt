@@ -32,9 +32,12 @@ pub(crate) fn run() -> u8
     if words == 3 {
         return list_file(words::default_edition(), 2);
     }
-    let edition = words::edition_at(2);
-    if (words != 4) | (edition == 0) {
-        return words::misused(b"list takes one file, and before it terminal or issue");
+    if words != 4 {
+        return words::misused(b"list takes one file, and before it an edition");
     }
-    list_file(words::edition_by(edition), 3)
+    let chosen = tables::edition_at(2);
+    if chosen.status != words::DONE {
+        return chosen.status;
+    }
+    list_file(chosen.edition, 3)
 }

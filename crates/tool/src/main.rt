@@ -48,6 +48,9 @@ fn run(name: &[u8]) -> u8
     if ground::is_same(name, b"host") {
         return tool_host::run();
     }
+    if ground::is_same(name, b"table") {
+        return tool_table::run();
+    }
     words::misused(b"there is no such command")
 }
 

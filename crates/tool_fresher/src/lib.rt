@@ -146,9 +146,12 @@ fn compare_files(edition: Edition) -> u8
 pub fn run() -> u8
     ensures { λ r. ⌜ r < 4 ⌝ }
 {
-    let edition = words::edition_at(2);
-    if (os::arg_count() != 5) | (edition == 0) {
-        return words::misused(b"fresher takes terminal or issue, and two files");
+    if os::arg_count() != 5 {
+        return words::misused(b"fresher takes an edition and two files");
     }
-    compare_files(words::edition_by(edition))
+    let chosen = tables::edition_at(2);
+    if chosen.status != words::DONE {
+        return chosen.status;
+    }
+    compare_files(chosen.edition)
 }

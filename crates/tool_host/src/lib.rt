@@ -91,9 +91,12 @@ fn run_word(edition: Edition) -> u8
 pub fn run() -> u8
     ensures { λ r. ⌜ r < 4 ⌝ }
 {
-    let edition = words::edition_at(2);
-    if (os::arg_count() != 5) | (edition == 0) {
-        return words::misused(b"host takes terminal or issue, a file and a command");
+    if os::arg_count() != 5 {
+        return words::misused(b"host takes an edition, a file and a command");
     }
-    run_word(words::edition_by(edition))
+    let chosen = tables::edition_at(2);
+    if chosen.status != words::DONE {
+        return chosen.status;
+    }
+    run_word(chosen.edition)
 }

@@ -183,19 +183,25 @@ fn check_files(edition: Edition) -> u8
 pub fn run() -> u8
     ensures { λ r. ⌜ r < 4 ⌝ }
 {
-    let edition = words::edition_at(2);
-    if (os::arg_count() != 5) | (edition == 0) {
-        return words::misused(b"plan takes terminal or issue, and two files");
+    if os::arg_count() != 5 {
+        return words::misused(b"plan takes an edition and two files");
     }
-    plan_files(words::edition_by(edition))
+    let chosen = tables::edition_at(2);
+    if chosen.status != words::DONE {
+        return chosen.status;
+    }
+    plan_files(chosen.edition)
 }
 
 pub fn run_check() -> u8
     ensures { λ r. ⌜ r < 4 ⌝ }
 {
-    let edition = words::edition_at(2);
-    if (os::arg_count() != 6) | (edition == 0) {
-        return words::misused(b"check-plan takes terminal or issue, two files, and one with steps");
+    if os::arg_count() != 6 {
+        return words::misused(b"check-plan takes an edition, two files, and one with steps");
     }
-    check_files(words::edition_by(edition))
+    let chosen = tables::edition_at(2);
+    if chosen.status != words::DONE {
+        return chosen.status;
+    }
+    check_files(chosen.edition)
 }

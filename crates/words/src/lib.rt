@@ -74,10 +74,3 @@ pub fn edition_by(number: u64) -> Edition {
 pub fn default_edition() -> Edition {
     edition_by(files::choose(false, b""))
 }
-
-// The number of the edition that word i names, or 0.
-pub fn edition_at(i: usize) -> u64 {
-    let mut word = [0u8; 16];
-    let length = os::arg(i, &mut word);
-    files::edition_named(&word[..length])
-}

@@ -80,6 +80,17 @@ fn say_size(image: &[u8]) {
     put(b" bytes, 256 are due");
 }
 
+// 2
+fn say_edition(tag: u8) {
+    put(b"the edition is not well formed");
+    if tag == 0 {
+        put(b": its number is 0");
+    } else {
+        put(b" in the row of ");
+        put_object(tag);
+    }
+}
+
 // 3
 fn say_head(image: &[u8], place: usize) {
     put(b"fixed byte");
@@ -217,7 +228,7 @@ fn say_number(image: &[u8], refusal: Refusal) {
     let number = refusal.number;
     match number {
         1 => say_size(image),
-        2 => put(b"the edition is not well formed"),
+        2 => say_edition(refusal.tag),
         3 => say_head(image, place),
         4 => say_template(image, place),
         5 => say_tag(image, place, false),

@@ -1,0 +1,3 @@
+-- A card that shows that one edition is not nested in another.
+pub mod Cards
+pub mod Shows

@@ -1,0 +1,58 @@
+// A card that shows that one edition is not nested in another: the inner takes it, and the outer does not.
+// Any two editions may be handed over. Whether the record fits a card, by its sums and its template, is for `writer::write` to say.
+// Where the inner is nested in the outer, or one is not well formed, there is no such card: the record is the empty one, which no edition writes.
+mod values;
+
+use card::Object;
+use card::Record;
+use edition::Edition;
+use edition::Row;
+use nesting::Nesting;
+ghost use mathlib.Core.Path.{_≡_};
+ghost use mathlib.Core.List.{map};
+ghost use Rattle.card.specs.Content.{objectOf, recordOf};
+ghost use Rattle.example.specs.Cards.{valuesOf, cardOf, exampleOf};
+
+fn objects_of(inner: [Row; 17], outer: [Row; 17], told: Nesting, long: bool) -> [Object; 16]
+    ensures { λ r. ⌜ r ≡ map objectOf (valuesOf inner outer told long) ⌝ }
+{
+    let mut objects = [Object::ABSENT; 16];
+    let mut k: usize = 0;
+    while k < 16 {
+        let i = inner[k];
+        let o = outer[k];
+        let part = values::part_of(told, long, k);
+        objects[k] = values::object_for(part, i, o);
+        k += 1;
+    }
+    objects
+}
+
+fn card_of(inner: Edition, outer: Edition, told: Nesting, long: bool) -> Record
+    ensures { λ r. ⌜ r ≡ recordOf (inner .number) (cardOf inner outer told long) ⌝ }
+{
+    let rows = inner.rows;
+    let others = outer.rows;
+    Record {
+        first: 0x92,
+        free: [0; 12],
+        last: 0,
+        objects: objects_of(rows, others, told, long),
+        number: inner.number,
+    }
+}
+
+// The shortest such card, or, where it has less than a template's 70 bytes, one with its first objects as long as can be.
+pub fn example(inner: Edition, outer: Edition) -> Record
+    ensures { λ r. ⌜ r ≡ exampleOf inner outer ⌝ }
+{
+    let told = nesting::nested(inner, outer);
+    if told.row >= 16 {
+        return Record::empty();
+    }
+    let short = card_of(inner, outer, told, false);
+    if checks::objects_size(short) + 3 >= 70 {
+        return short;
+    }
+    card_of(inner, outer, told, true)
+}

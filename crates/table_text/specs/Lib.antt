@@ -1,0 +1,3 @@
+-- The text of a table.
+pub mod Vocabulary
+pub mod Texts

@@ -1,0 +1,111 @@
+// Whether one table is nested in another; where it is not, a card that the inner takes and the outer does not.
+use crate::check;
+use edition::Edition;
+use libc::STDOUT_FILENO;
+use nesting::Nesting;
+ghost use Prim.Native.Nat.{_<_};
+
+// Writes what a card is answered with under an edition.
+fn write_reading(who: &[u8], edition: Edition, image: &[u8]) {
+    let mut room = [0u8; 521];
+    let size = listing::list(edition, image, &mut room);
+    io::write_all(STDOUT_FILENO, who);
+    if room[0] == b'A' {
+        io::write_all(STDOUT_FILENO, b"ACCEPTED\n");
+    } else {
+        io::write_all(STDOUT_FILENO, &room[..size]);
+    }
+}
+
+// Puts an image as eight lines of hex digits.
+fn put_image(room: &mut [u8], image: &[u8]) {
+    let mut place = 0;
+    let mut i: usize = 0;
+    while i < 256 {
+        place = ground::put_hex(room, place, ground::byte_at(image, i));
+        if i % 32 == 31 {
+            place = ground::put_byte(room, place, b'\n');
+        }
+        i += 1;
+    }
+}
+
+fn write_image(image: &[u8]) -> u8
+    ensures { λ r. ⌜ r < 4 ⌝ }
+{
+    let mut room = [0u8; 520];
+    put_image(&mut room, image);
+    words::refused(&room)
+}
+
+// Writes the image to the file that word 5 names.
+fn write_file(image: &[u8]) -> u8
+    ensures { λ r. ⌜ r < 4 ⌝ }
+{
+    let mut path = io::buffer();
+    let length = os::arg(5, &mut path);
+    if files::write(&path[..length], image) {
+        return words::REFUSED;
+    }
+    words::FAILED
+}
+
+// Writes the card that shows it, as a file where one is named.
+fn write_card(inner: Edition, outer: Edition, to_file: bool) -> u8
+    ensures { λ r. ⌜ r < 4 ⌝ }
+{
+    let mut image = [0u8; 256];
+    let refusal = writer::write(inner, example::example(inner, outer), &mut image);
+    if refusal.number != 0 {
+        words::say(b"no card is written: what would show it does not fit a template, or its sums");
+        return words::REFUSED;
+    }
+    write_reading(b"inner: ", inner, &image);
+    write_reading(b"outer: ", outer, &image);
+    if to_file {
+        return write_file(&image);
+    }
+    write_image(&image)
+}
+
+// Writes the row and the clause that fails there.
+fn write_clause(answer: Nesting) {
+    let clause = answer.clause;
+    io::write_all(STDOUT_FILENO, b"no: ");
+    check::write_row(answer.row);
+    match clause {
+        1 => io::write_all(
+            STDOUT_FILENO,
+            b": the inner permits a length that the outer does not\n",
+        ),
+        2 => io::write_all(
+            STDOUT_FILENO,
+            b": the inner takes a value that the outer does not\n",
+        ),
+        _ => io::write_all(
+            STDOUT_FILENO,
+            b": the outer requires it, and the inner does not\n",
+        ),
+    }
+    ;
+}
+
+fn write_no(inner: Edition, outer: Edition, answer: Nesting, to_file: bool) -> u8
+    ensures { λ r. ⌜ r < 4 ⌝ }
+{
+    write_clause(answer);
+    write_card(inner, outer, to_file)
+}
+
+pub(crate) fn nested(inner: Edition, outer: Edition, to_file: bool) -> u8
+    ensures { λ r. ⌜ r < 4 ⌝ }
+{
+    let answer = nesting::nested(inner, outer);
+    let clause = answer.clause;
+    match clause {
+        0 => words::written(io::write_all(STDOUT_FILENO, b"yes\n")),
+        4 => words::refused(b"no: the inner is not well formed\n"),
+        5 => words::refused(b"no: the outer is not well formed\n"),
+        _ => write_no(inner, outer, answer, to_file),
+    }
+}
