@@ -26,6 +26,7 @@ uint64_t answer_nested(const struct test_case *test_case, FILE *out);
 uint64_t answer_sweep(const struct test_case *test_case, FILE *out);
 uint64_t answer_pair_sweep(const struct test_case *test_case, FILE *out);
 uint64_t answer_record_sweep(const struct test_case *test_case, FILE *out);
+uint64_t answer_sizes(const struct test_case *test_case, FILE *out);
 uint64_t answer_table_sweep(const struct test_case *test_case, FILE *out);
 
 #endif

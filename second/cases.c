@@ -145,10 +145,12 @@ void write_corpus(uint64_t seed)
     day_cases();
     tree_cases();
     nested_cases();
+    template_cases();
 }
 
 void write_sweeps(void)
 {
     set_up_editions();
+    sizes_cases();
     sweep_cases();
 }

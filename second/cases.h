@@ -37,6 +37,7 @@ void record_around(uint8_t *record, size_t row);
 void reading_cases(void);
 void writing_cases(void);
 void shared_cases(void);
+void template_cases(void);
 void edition_cases(void);
 void length_cases(void);
 void number_cases(void);
@@ -48,6 +49,7 @@ void front_cases(void);
 void day_cases(void);
 void tree_cases(void);
 void nested_cases(void);
+void sizes_cases(void);
 void sweep_cases(void);
 
 void write_corpus(uint64_t seed);

@@ -287,6 +287,19 @@ static void valid_cards(void)
     }
 }
 
+/* Each template length, and some beyond both ends. */
+void template_cases(void)
+{
+    uint8_t record[RECORD_SIZE];
+    size_t length;
+
+    for (length = 60; length < 224; length++) {
+        const struct edition *edition = length < 70 || length > 212 ? &wide : length < 74 ? &terminal : turn(length);
+        if (chance_record_of(record, edition->table, length))
+            emit_both(edition, record);
+    }
+}
+
 void shared_cases(void)
 {
     card_s();

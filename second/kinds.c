@@ -22,6 +22,7 @@ const struct kind kinds[] = {
     {'G', "lmf", answer_tree},
     {'U', "llmf", answer_tree_write},
     {'E', "ee", answer_nested},
+    {'Z', "nnn", answer_sizes},
     {'V', "esnnn", answer_sweep},
     {'M', "esnnn", answer_pair_sweep},
     {'O', "ernn", answer_record_sweep},

@@ -40,9 +40,10 @@ fn run_day(kind: u8, room: &mut [u8]) -> bool {
     }
 }
 
-// Sweeps: each value of a byte.
+// Sweeps: each value of a byte. And other sizes than right ones.
 fn run_sweep(kind: u8, room: &mut [u8]) -> bool {
     match kind {
+        b'Z' => cases_sizes::run_sizes(),
         b'V' => cases_sweeps::run_sweep(room),
         b'M' => cases_sweeps::run_pair_sweep(room),
         b'O' => cases_sweeps::run_record_sweep(),
