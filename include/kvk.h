@@ -333,10 +333,10 @@ enum {
    another size before all else, and the commands list, batch, show, fresher, diff and front.
    kvk_plan, kvk_check_plan and the commands plan and check-plan tell what reading tells of the
    new image; a card of another size is 20 there, and comes first. Writing is kvk_write,
-   kvk_renumber and kvk_front; this last one looks at the record as writing under terminal does,
-   and never tells 2. kvk_host and the command host answer a refused image with '6900' and tell
-   no number but 20. The command length is kvk_length, tree is kvk_tree, and day the five calls
-   of day files. */
+   kvk_renumber, the command make, and kvk_front; this last one looks at the record as writing
+   under terminal does, and never tells 2. kvk_host and the command host answer a refused image
+   with '6900' and tell no number but 20. The command length is kvk_length, tree is kvk_tree,
+   and day the five calls of day files. */
 
 /* The tags in card order: 80 fund name, 81 fund number, 8F office code, 82 insured number,
    83 status, 90 status addition, 84 title, 85 given name, 86 name prefix, 87 family name,

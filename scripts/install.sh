@@ -51,7 +51,7 @@ man_section() { # NAME: its text is standard input
 
 man_page() {
     echo ".TH KVK 1 \"\" \"kvk $version\" \"User commands\""
-    printf '.SH NAME\n%s\n' 'kvk \- reads, shows and compares German insured-person memory cards'
+    printf '.SH NAME\n%s\n' 'kvk \- reads, makes, shows and compares German insured-person memory cards'
     usage | sed '/^$/,$d' | man_section COMMANDS
     usage | sed -e '1,/^$/d' -e '/^Exit status/,$d' | man_section DESCRIPTION
     usage | sed -n -e 's/^Exit status: //' -e '/^0 accepted/,$p' | man_section 'EXIT STATUS'

@@ -9,3 +9,4 @@ pub mod Plans
 pub mod Days
 pub mod Nestings
 pub mod TableTexts
+pub mod Letters

@@ -1,10 +1,8 @@
 // The program behind ./kvk: the first word names the command, the others are its own.
 // What a command writes goes to standard output, what it has to say to standard error.
 // A program has no exit status, so the last byte of each run, on descriptor 3, is its status as a digit.
-mod batch;
 mod length;
 mod list;
-mod show;
 
 ghost use Prim.Native.Nat.{_<_};
 
@@ -16,13 +14,16 @@ fn run(name: &[u8]) -> u8
         return list::run();
     }
     if ground::is_same(name, b"batch") {
-        return batch::run();
+        return tool_batch::run();
     }
     if ground::is_same(name, b"length") {
         return length::run();
     }
     if ground::is_same(name, b"show") {
-        return show::run();
+        return tool_show::run();
+    }
+    if ground::is_same(name, b"make") {
+        return tool_make::run();
     }
     if ground::is_same(name, b"day") {
         return tool_day::run();

@@ -17,15 +17,21 @@ fn write_reading(who: &[u8], edition: Edition, image: &[u8]) {
     }
 }
 
+// Puts a byte in hex, and the end of the line behind the last of one. Answers the place behind it.
+fn put_cell(room: &mut [u8], at: usize, byte: u8, is_last: bool) -> usize {
+    let place = ground::put_hex(room, at, byte);
+    if is_last {
+        return ground::put_byte(room, place, b'\n');
+    }
+    place
+}
+
 // Puts an image as eight lines of hex digits.
 fn put_image(room: &mut [u8], image: &[u8]) {
     let mut place = 0;
     let mut i: usize = 0;
     while i < 256 {
-        place = ground::put_hex(room, place, ground::byte_at(image, i));
-        if i % 32 == 31 {
-            place = ground::put_byte(room, place, b'\n');
-        }
+        place = put_cell(room, place, ground::byte_at(image, i), i % 32 == 31);
         i += 1;
     }
 }

@@ -77,7 +77,11 @@ fn say_size(image: &[u8]) {
     } else {
         put_number(image.len());
     }
-    put(b" bytes, 256 are due");
+    if image.len() == 1 {
+        put(b" byte, 256 are due");
+    } else {
+        put(b" bytes, 256 are due");
+    }
 }
 
 // 2

@@ -1,0 +1,78 @@
+-- Each byte of text has a letter: up to '7E' by a test that is computed, and past it no byte is text. Assumes nothing.
+use Prim.Native.Nat.{ℕ, zero, suc, _≤_, _<_}
+use native.Mathlib.Omega.{arith}
+use borrow.Author.Tests.{leb-true, leb-false, le-leb, lt-leb, ne-eqb}
+use mathlib.Core.Path.{_≡_, refl, sym, ap, _∙_}
+use mathlib.Core.Bool.{Bool, true, false, cond, not, _&&_}
+use mathlib.Core.List.{List, [], _∷_}
+use lib.Dec.{leb}
+use lib.ListN.{length}
+use Rattle.ground.specs.Lists.{among, leading}
+use Rattle.ground.proofs.Lists.{true-false, alikeBelow, alike-below, leading-most}
+use Rattle.rules.specs.Values.{isText}
+use Rattle.letters.specs.Letters.{hasLetter, haveLetters}
+use Rattle.letters.proofs.Inverse.{bytes-come-back}
+use Rattle.card_text.specs.Values.{TextComesBack}
+
+abbrev without : ℕ → Bool
+without b = isText b && not (hasLetter b)
+
+abbrev never : ℕ → Bool
+never b = false
+
+none-without : alikeBelow without never 127 ≡ true
+unfolding isText among
+none-without = refl
+
+past : (b : ℕ) → 0x7E < b → isText b ≡ false
+unfolding isText among
+past b h =
+    rw (
+      le-leb 0x30 b (omega arith),
+      lt-leb b 0x39 (omega arith),
+      le-leb 0x41 b (omega arith),
+      lt-leb b 0x5A (omega arith),
+      le-leb 0x61 b (omega arith),
+      lt-leb b 0x7A (omega arith),
+      ne-eqb b 0x5B (λ e. omega arith),
+      ne-eqb b 0x5C (λ e. omega arith),
+      ne-eqb b 0x5D (λ e. omega arith),
+      ne-eqb b 0x7B (λ e. omega arith),
+      ne-eqb b 0x7C (λ e. omega arith),
+      ne-eqb b 0x7D (λ e. omega arith),
+      ne-eqb b 0x7E (λ e. omega arith),
+      ne-eqb b 0x20 (λ e. omega arith),
+      ne-eqb b 0x26 (λ e. omega arith),
+      ne-eqb b 0x27 (λ e. omega arith),
+      ne-eqb b 0x28 (λ e. omega arith),
+      ne-eqb b 0x29 (λ e. omega arith),
+      ne-eqb b 0x2B (λ e. omega arith),
+      ne-eqb b 0x2D (λ e. omega arith),
+      ne-eqb b 0x2E (λ e. omega arith),
+      ne-eqb b 0x2F (λ e. omega arith),
+      ne-eqb b 0x5F (λ e. omega arith),
+    )
+
+pub text-letter : (b : ℕ) → isText b ≡ true → hasLetter b ≡ true
+text-letter b t = go (leb b 0x7E) refl
+  where
+    both : (p q : Bool) → (p && not q) ≡ false → p ≡ true → q ≡ true
+    both true true e f = refl
+    both true false e f = sym e
+    both false q e f = absurd (true-false f refl)
+
+    go : (q : Bool) → leb b 0x7E ≡ q → hasLetter b ≡ true
+    go true e = both (isText b) (hasLetter b) (alike-below without never 127 none-without b (omega (arith, leb-true b 0x7E e))) t
+    go false e = absurd (true-false t (past b (leb-false b 0x7E e)))
+
+letters-all : (v : List ℕ) → leading isText v ≡ length v → haveLetters v ≡ true
+unfolding leading haveLetters
+letters-all [] h = refl
+letters-all (b ∷ v) h = go (isText b) refl h (letters-all v)
+  where
+    go : (q : Bool) → isText b ≡ q → cond q (suc (leading isText v)) 0 ≡ suc (length v) → (leading isText v ≡ length v → haveLetters v ≡ true) → (hasLetter b && haveLetters v) ≡ true
+    go true e l ih = rw (text-letter b e) (ih (omega arith))
+    go false e l ih = absurd (omega arith)
+
+pub text-comes-back : TextComesBack
+text-comes-back v h = bytes-come-back v (letters-all v h)

@@ -1,0 +1,3 @@
+-- A card as text.
+pub mod Lines
+pub mod Values
