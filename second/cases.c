@@ -152,5 +152,7 @@ void write_sweeps(void)
 {
     set_up_editions();
     sizes_cases();
+    behind_cases();
+    written_lengths();
     sweep_cases();
 }

@@ -46,9 +46,11 @@ void fresher_cases(void);
 void differences_cases(void);
 void plan_cases(void);
 void front_cases(void);
+void behind_cases(void);
 void day_cases(void);
 void tree_cases(void);
 void nested_cases(void);
+void written_lengths(void);
 void sizes_cases(void);
 void sweep_cases(void);
 

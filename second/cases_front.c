@@ -213,6 +213,25 @@ static void random_records(void)
     }
 }
 
+/* Bytes behind a value, and behind a length of 0, are no content. */
+void behind_cases(void)
+{
+    uint8_t record[RECORD_SIZE];
+    size_t row, other;
+
+    for (row = 0; row <= OBJECT_COUNT; row++) {
+        record_full(record);
+        for (other = 0; other < OBJECT_COUNT; other++) {
+            uint8_t *slot = slot_of(record, other);
+            slot[0] = other == row ? 0 : slot[0];
+            memset(slot + 1 + slot[0], 0x31, VALUE_MAX - (size_t)slot[0]);
+        }
+        emit_layouts(record);
+        emit_record(&terminal, record);
+        emit_record(&issue, record);
+    }
+}
+
 void front_cases(void)
 {
     signs();

@@ -418,7 +418,7 @@ static void days_of_birth(void)
     unsigned month, tens;
 
     record_full(record);
-    for (month = 0; month < 14; month++) {
+    for (month = 0; month < 20; month++) {
         for (tens = 0; tens < 4; tens++) {
             uint8_t *value = slot_of(record, ROW_88) + 1;
             value[0] = (uint8_t)(0x30 + tens);

@@ -308,6 +308,34 @@ static void largest_listings(void)
     emit_listing(&listing, 4096);
 }
 
+/* One plain object of this length, with so many bytes of values. */
+static void emit_plain(size_t length, size_t values)
+{
+    static struct listing listing;
+
+    listing.count = TREE_ENTRY;
+    listing.words[0] = 0x04;
+    listing.words[1] = 1;
+    listing.words[2] = 0;
+    listing.words[3] = (uint16_t)length;
+    memset(listing.values, 0x2A, values);
+    listing.length = values;
+    emit_listing(&listing, TREE_MAX);
+}
+
+/* Both sides of each edge of the length field, and values of another number where the bytes are as many as there may be. */
+void written_lengths(void)
+{
+    static const size_t lengths[] = {126, 127, 128, 129, 254, 255, 256, 257, 4090, 4091, 4092, 4093};
+    size_t i;
+
+    for (i = 0; i < COUNT(lengths); i++) {
+        emit_plain(lengths[i], lengths[i]);
+        emit_plain(lengths[i], lengths[i] + 1);
+        emit_plain(lengths[i], lengths[i] - 1);
+    }
+}
+
 void tree_cases(void)
 {
     short_strings();
