@@ -336,7 +336,9 @@ enum {
    kvk_renumber, the command make, and kvk_front; this last one looks at the record as writing
    under terminal does, and never tells 2. kvk_host and the command host answer a refused image
    with '6900' and tell no number but 20. The command length is kvk_length, tree is kvk_tree,
-   and day the five calls of day files. */
+   and day the five calls of day files. kvk_nested refuses nothing: its number is 0, and where
+   the inner table is not nested in the outer the place is the clause that fails and the tag the
+   row's. */
 
 /* The tags in card order: 80 fund name, 81 fund number, 8F office code, 82 insured number,
    83 status, 90 status addition, 84 title, 85 given name, 86 name prefix, 87 family name,

@@ -56,6 +56,32 @@ static void make_tables(struct call *call)
     change_sizes(call);
 }
 
+/* Each table whole, numbered 0, with an empty set, a byte short, a byte long: which of two that are amiss is told. */
+enum { STATES = 5 };
+
+static size_t count_fixed(void)
+{
+    return STATES * STATES;
+}
+
+static void set_state(struct bytes *table, size_t state)
+{
+    set_bytes(table, terminal_table, TABLE_SIZE);
+    table->at[TABLE_SIZE] = 0;
+    switch (state) {
+    case 1: table->at[TABLE_SIZE - 1] = 0; break;
+    case 2: memset(table->at + 2, 0, 4); break;
+    case 3: table->length = TABLE_SIZE - 1; break;
+    case 4: table->length = TABLE_SIZE + 1; break;
+    }
+}
+
+static void make_fixed_pair(struct call *call, size_t which)
+{
+    set_state(&call->lent[0], which % STATES);
+    set_state(&call->lent[1], which / STATES);
+}
+
 static uint64_t library_nested(const struct lent *lent)
 {
     return kvk_nested(lent->at[0], lent->length[0], lent->at[1], lent->length[1]);
@@ -68,5 +94,5 @@ static uint64_t nested_by_second(const struct lent *lent)
 
 const struct comparison nestings = {
     "nested", {{"inner", 1}, {"outer", 1}, {NULL, 0}}, 1, 2, library_nested, nested_by_second, make_tables,
-    NULL, NULL, NULL
+    NULL, count_fixed, make_fixed_pair
 };

@@ -3,18 +3,16 @@ use Prim.Native.Nat.{ℕ}
 use mathlib.Core.Bool.{cond}
 use mathlib.Core.List.{List}
 use lib.Dec.{eqb}
-use lib.ListN.{length}
 use Rattle.edition.specs.Rows.{tagOf}
-use Rattle.card.specs.Refusals.{refuse, gate}
+use Rattle.card.specs.Refusals.{refuse}
 use Rattle.nesting.specs.declared.Nesting.{Nesting}
-use Rattle.nesting.specs.Decision.{told, nestingOf}
-use Rattle.wire_tables.specs.Tables.{editionFrom}
+use Rattle.nesting.specs.Decision.{nestingOf}
+use Rattle.wire_tables.specs.Tables.{lentEdition}
 use Rattle.wire.specs.Answers.{valued}
 
 -- a table of another size is no well-formed edition
 unfoldable pub tablesNesting : List ℕ → List ℕ → Nesting
-tablesNesting inner outer =
-    gate (eqb (length inner) 103) (told 4 17) (gate (eqb (length outer) 103) (told 5 17) (nestingOf (editionFrom inner) (editionFrom outer)))
+tablesNesting inner outer = nestingOf (lentEdition inner) (lentEdition outer)
 
 -- number 0, since nothing is refused; the clause as the place, and the tag of the row, 0 where no row is told; the value 1 nested, 0 not
 unfoldable pub packedNesting : Nesting → ℕ

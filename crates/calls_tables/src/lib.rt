@@ -6,21 +6,6 @@ use nesting::Nesting;
 ghost use mathlib.Core.Path.{_≡_};
 ghost use Rattle.calls_tables.specs.Nestings.{tablesNesting, packedNesting};
 
-fn decide(inner: &[u8], outer: &[u8]) -> Nesting
-    ensures { λ r. ⌜ r ≡ tablesNesting (now (inner .entry)) (now (outer .entry)) ⌝ }
-{
-    if inner.len() != 103 {
-        return Nesting { clause: 4, row: 17 };
-    }
-    if outer.len() != 103 {
-        return Nesting { clause: 5, row: 17 };
-    }
-    nesting::nested(
-        wire_tables::edition_of(inner),
-        wire_tables::edition_of(outer),
-    )
-}
-
 fn pack_nesting(answer: Nesting) -> u64
     ensures { λ r. ⌜ r ≡ packedNesting answer ⌝ }
 {
@@ -33,5 +18,9 @@ fn pack_nesting(answer: Nesting) -> u64
 pub fn nested(inner: &[u8], outer: &[u8]) -> u64
     ensures { λ r. ⌜ r ≡ packedNesting (tablesNesting (now (inner .entry)) (now (outer .entry))) ⌝ }
 {
-    pack_nesting(decide(inner, outer))
+    let editions_nested = nesting::nested(
+        wire_tables::edition_of(inner),
+        wire_tables::edition_of(outer),
+    );
+    pack_nesting(editions_nested)
 }

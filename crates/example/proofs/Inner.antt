@@ -130,9 +130,9 @@ all-by (t ∷ ts) [] vs e l h = absurd (omega arith)
 all-by (t ∷ ts) (r ∷ rs) [] e l h = absurd (omega arith)
 all-by (t ∷ ts) (r ∷ rs) (v ∷ vs) e l h = one-more (h 0 (zero-lt-suc (length vs))) (all-by ts rs vs (omega arith) (omega arith) (λ k b. h (suc k) (omega (arith, b))))
 
-part-met : (n : Nesting) (long : Bool) (k : ℕ) (i o : Row) → rowFormed false i ≡ true → (k ≡ n .row → Fails i o (n .clause)) → RowMet i (valueFor (partOf n long k) i o)
+part-met : (n : Nesting) (long : ℕ) (k : ℕ) (i o : Row) → rowFormed false i ≡ true → (k ≡ n .row → Fails i o (n .clause)) → RowMet i (valueFor (partOf n long k) i o)
 unfolding partOf
-part-met n long k i o f h = go (eqb k (n .row)) (long && ltb k 4) refl
+part-met n long k i o f h = go (eqb k (n .row)) (ltb k long) refl
   where
     go : (p q : Bool) → eqb k (n .row) ≡ p → RowMet i (valueFor (cond p (n .clause) (cond q 5 4)) i o)
     go true q e = told-met i o (n .clause) f (h (eqb-true k (n .row) e))
@@ -143,8 +143,8 @@ objects-16 : length objectTags ≡ 16
 unfolding tags
 objects-16 = refl
 
--- each row of the inner edition is met, whichever of the two cards it is
-pub inner-met : (i o : Edition) (n : Nesting) (long : Bool) → length (i .rows) ≡ 17 → n .row < 16 → Told i o n → AllMet (objectRows i) (valuesOf (i .rows) (o .rows) n long)
+-- each row of the inner edition is met, however many rows are long
+pub inner-met : (i o : Edition) (n : Nesting) (long : ℕ) → length (i .rows) ≡ 17 → n .row < 16 → Told i o n → AllMet (objectRows i) (valuesOf (i .rows) (o .rows) n long)
 inner-met i o n long li h t =
     all-by objectTags (i .rows) (valuesOf (i .rows) (o .rows) n long) (values-length (i .rows) (o .rows) n long ∙ sym objects-16) (omega (arith, objects-16)) at
   where

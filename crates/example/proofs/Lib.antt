@@ -7,4 +7,5 @@ pub mod Shown
 pub mod Widest
 pub mod Refused
 pub mod Inner
+pub mod Fitting
 pub mod Worked

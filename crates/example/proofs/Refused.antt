@@ -3,9 +3,9 @@ use Prim.Native.Nat.{ℕ, zero, suc, _+_, _<_}
 use native.Mathlib.Nat.{not-suc-le-zero, le-of-suc-le-suc}
 use native.Mathlib.Omega.{arith}
 use mathlib.Core.Path.{_≡_, refl, sym, ap, _∙_, subst}
-use mathlib.Core.Bool.{Bool, true, false, cond}
+use mathlib.Core.Bool.{Bool, true, false}
 use mathlib.Core.List.{List, [], _∷_, _++_}
-use lib.Dec.{eqb, leb}
+use lib.Dec.{eqb}
 use lib.ListN.{length, getD, length-append, length-map, List·getD-append}
 use lib.Seq.{getD-append-seam}
 use borrow.Author.Tests.{eq-eqb, eqb-true, eqb-false, lt-leb}
@@ -23,7 +23,7 @@ use Rattle.card.specs.declared.Record.{Record}
 use Rattle.card.specs.declared.Reading.{Reading}
 use Rattle.card.specs.Content.{Content, contentOf, recordOf, objectOf}
 use Rattle.card.specs.Refusals.{none}
-use Rattle.card.specs.Layout.{objectTags, objectsOf, templateLength}
+use Rattle.card.specs.Layout.{objectTags}
 use Rattle.card.specs.Rules.{entries, objectRows, RowMet, AllMet, one-more, Meets}
 use Rattle.card.specs.Reading.{reading}
 use Rattle.card.specs.Writing.{recordRefusal}
@@ -31,7 +31,7 @@ use Rattle.card.proofs.Records.{content-back}
 use Rattle.demands.specs.Demands.{LentEdition, LentRecord, InnerReads, same, first}
 use Rattle.demands.proofs.Library.{library}
 use Rattle.demands.proofs.NestedLaws.{outer-allows}
-use Rattle.example.specs.Cards.{listed, partOf, valueFor, valueAt, valuesOf, cardOf, chosenCard, exampleOf}
+use Rattle.example.specs.Cards.{listed, partOf, valueFor, valueAt, valuesOf, cardOf, enough, firstFrom, chosenCard, exampleOf}
 use Rattle.example.specs.Shows.{image, Shows}
 use Rattle.example.proofs.Shown.{value-shown}
 use Rattle.example.proofs.Widest.{widest, widest-rows, in-widest}
@@ -94,25 +94,25 @@ met-at (t ∷ ts) (r ∷ rs) [] k a h = absurd (not-suc-le-zero h)
 met-at (t ∷ ts) (r ∷ rs) (v ∷ vs) zero (one-more m a) h = m
 met-at (t ∷ ts) (r ∷ rs) (v ∷ vs) (suc k) (one-more m a) h = met-at ts rs vs k a (le-of-suc-le-suc h)
 
-part-told : (n : Nesting) (long : Bool) → partOf n long (n .row) ≡ n .clause
+part-told : (n : Nesting) (long : ℕ) → partOf n long (n .row) ≡ n .clause
 unfolding partOf
 part-told n long = rw (eq-eqb (n .row) (n .row) refl)
 
-value-told : (is os : List Row) (n : Nesting) (long : Bool) → n .row < 16 → getD (valuesOf is os n long) (n .row) [] ≡ valueFor (n .clause) (getD is (n .row) noRow) (getD os (n .row) noRow)
+value-told : (is os : List Row) (n : Nesting) (long : ℕ) → n .row < 16 → getD (valuesOf is os n long) (n .row) [] ≡ valueFor (n .clause) (getD is (n .row) noRow) (getD os (n .row) noRow)
 unfolding valuesOf
 value-told is os n long h =
     listed-at 16 (valueAt is os n long) (n .row) [] h
     ∙ ap (λ (p : ℕ). valueFor p (getD is (n .row) noRow) (getD os (n .row) noRow)) (part-told n long)
 
-pub value-at : (is os : List Row) (n : Nesting) (long : Bool) (k : ℕ) → k < 16 → getD (valuesOf is os n long) k [] ≡ valueAt is os n long k
+pub value-at : (is os : List Row) (n : Nesting) (long : ℕ) (k : ℕ) → k < 16 → getD (valuesOf is os n long) k [] ≡ valueAt is os n long k
 unfolding valuesOf
 value-at is os n long k h = listed-at 16 (valueAt is os n long) k [] h
 
-pub values-length : (is os : List Row) (n : Nesting) (long : Bool) → length (valuesOf is os n long) ≡ 16
+pub values-length : (is os : List Row) (n : Nesting) (long : ℕ) → length (valuesOf is os n long) ≡ 16
 unfolding valuesOf
 values-length is os n long = listed-length 16 (valueAt is os n long)
 
-not-met : (i o : Edition) (n : Nesting) (long : Bool) → n .row < 16 → Told i o n → AllMet (objectRows o) (valuesOf (i .rows) (o .rows) n long) → ⊥
+not-met : (i o : Edition) (n : Nesting) (long : ℕ) → n .row < 16 → Told i o n → AllMet (objectRows o) (valuesOf (i .rows) (o .rows) n long) → ⊥
 not-met i o n long h t a =
     let m : RowMet (getD (o .rows) (n .row) noRow) (getD (valuesOf (i .rows) (o .rows) n long) (n .row) []) =
     met-at objectTags (o .rows) (valuesOf (i .rows) (o .rows) n long) (n .row) a (omega (arith, values-length (i .rows) (o .rows) n long)) in
@@ -120,18 +120,14 @@ not-met i o n long h t a =
     value-shown (eqb (n .row) 16) (getD (i .rows) (n .row) noRow) (getD (o .rows) (n .row) noRow) (n .clause)
     (formed-row (i .rows) (n .row) (formed-rows i (t .inner)) (t .at .there)) (t .at .fails) v
 
--- ---- the card: one of the two, and its record
+-- ---- the card: so many rows are long, and its record
 pub record Made (i o : Edition) (n : Nesting) (c : Content) : Type 0 where
-  pub long : Bool
+  pub long : ℕ
   pub is : c ≡ cardOf i o n long
 
 pub chosen-made : (i o : Edition) (n : Nesting) → Made i o n (chosenCard i o n)
 unfolding chosenCard
-chosen-made i o n = go (leb 70 (templateLength (objectsOf (cardOf i o n false))))
-  where
-    go : (q : Bool) → Made i o n (cond q (cardOf i o n false) (cardOf i o n true))
-    go true = record { long = false; is = refl }
-    go false = record { long = true; is = refl }
+chosen-made i o n = record { long = firstFrom (enough i o n) 16 0; is = refl }
 
 pub made-values : (i o : Edition) (n : Nesting) (c : Content) (m : Made i o n c) → c .values ≡ valuesOf (i .rows) (o .rows) n (m .long)
 unfolding cardOf

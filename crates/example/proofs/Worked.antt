@@ -17,7 +17,7 @@ use Rattle.card.specs.Layout.{body, objectsOf, templateLength}
 use Rattle.card.specs.Rules.{objectRows, AllMet, sumFits, namesFit, townFits, firstAllowed, lastAllowed, Allowed}
 use Rattle.demands.specs.Demands.{LentEdition}
 use Rattle.demands.proofs.Library.{library}
-use Rattle.example.specs.Cards.{listed, partOf, lengthFor, atMost, sampleFor, spelled, valueFor, valuesOf, cardOf, chosenCard, exampleOf}
+use Rattle.example.specs.Cards.{listed, partOf, lengthFor, atMost, sampleFor, spelled, valueFor, valuesOf, cardOf, enough, firstFrom, chosenCard, exampleOf}
 use Rattle.example.specs.Shows.{image, Shows}
 use Rattle.example.proofs.Refused.{example-content, example-number, example-lent, example-shows}
 use Rattle.example.proofs.Inner.{example-met}
@@ -29,17 +29,17 @@ told-8f = refl
 abbrev card : Content
 card = chosenCard terminal issue (told 3 2)
 
--- 51 bytes are too few for a template, so fund name and insured number are long
-size : templateLength (objectsOf card) ≡ 83
-unfolding issue terminal table chosenCard cardOf valuesOf listed valueFor partOf lengthFor atMost sampleFor spelled witnessOf shortestOf longestOf body tags trailingZeros leadingZeros
+-- 51 bytes are too few for a template, so the fund name is long
+size : templateLength (objectsOf card) ≡ 77
+unfolding issue terminal table chosenCard firstFrom enough cardOf valuesOf listed valueFor partOf lengthFor atMost sampleFor spelled witnessOf shortestOf longestOf body tags trailingZeros leadingZeros
 size = refl
 
 sums : (namesFit (map length (card .values)) ≡ true) × (townFits (map length (card .values)) ≡ true)
-unfolding issue terminal table chosenCard cardOf valuesOf listed valueFor partOf lengthFor atMost sampleFor spelled witnessOf shortestOf longestOf body tags trailingZeros leadingZeros namesFit townFits sumFits
+unfolding issue terminal table chosenCard firstFrom enough cardOf valuesOf listed valueFor partOf lengthFor atMost sampleFor spelled witnessOf shortestOf longestOf body tags trailingZeros leadingZeros namesFit townFits sumFits
 sums = (refl, refl)
 
 ends : (firstAllowed (card .first) ≡ true) × (lastAllowed (card .first) (card .last) ≡ true) × (length (card .free) ≡ 12)
-unfolding issue terminal table chosenCard cardOf valuesOf listed valueFor partOf lengthFor atMost sampleFor spelled witnessOf shortestOf longestOf body tags trailingZeros leadingZeros firstAllowed lastAllowed
+unfolding issue terminal table chosenCard firstFrom enough cardOf valuesOf listed valueFor partOf lengthFor atMost sampleFor spelled witnessOf shortestOf longestOf body tags trailingZeros leadingZeros firstAllowed lastAllowed
 ends = (refl, refl, refl)
 
 lent : LentEdition terminal × LentEdition issue

@@ -1,6 +1,6 @@
 -- A card that shows that one edition is not nested in another: as short as can be, and at the row told the value that shows it.
 use Prim.Native.Nat.{ℕ, zero, suc, _-_}
-use mathlib.Core.Bool.{Bool, true, false, cond, not, _&&_}
+use mathlib.Core.Bool.{Bool, false, cond, not, _&&_}
 use mathlib.Core.List.{List, [], _∷_, _++_}
 use lib.Bits.{bitAnd, bitXor}
 use lib.Dec.{eqb, leb, ltb}
@@ -23,9 +23,9 @@ listed zero f = []
 listed (suc n) f = listed n f ++ (f n ∷ [])
 
 -- what is asked of the object of row k: at the row told the clause, 1 a length that the outer lacks, 2 a value that it does not take, 3 absent;
--- elsewhere 4 the shortest if it is required, or 5 the longest, of the first four rows where the card is to be long
-unfoldable pub partOf : Nesting → Bool → ℕ → ℕ
-partOf n long k = cond (eqb k (n .row)) (n .clause) (cond (long && ltb k 4) 5 4)
+-- elsewhere 5 the longest, of the first `long` rows, or 4 the shortest if it is required
+unfoldable pub partOf : Nesting → ℕ → ℕ → ℕ
+partOf n long k = cond (eqb k (n .row)) (n .clause) (cond (ltb k long) 5 4)
 
 -- the lengths that the inner has and the outer has not
 abbrev pub lacking : ℕ → ℕ → ℕ
@@ -54,18 +54,27 @@ spelled n first rest = cond (eqb n 0) [] (first ∷ replicate (n - 1) rest)
 unfoldable pub valueFor : ℕ → Row → Row → List ℕ
 valueFor part i o = spelled (atMost (lengthFor part i o)) (sampleFor part i o .first) (sampleFor part i o .rest)
 
-abbrev pub valueAt : List Row → List Row → Nesting → Bool → ℕ → List ℕ
+abbrev pub valueAt : List Row → List Row → Nesting → ℕ → ℕ → List ℕ
 valueAt is os n long k = valueFor (partOf n long k) (getD is k noRow) (getD os k noRow)
 
-unfoldable pub valuesOf : List Row → List Row → Nesting → Bool → List (List ℕ)
+unfoldable pub valuesOf : List Row → List Row → Nesting → ℕ → List (List ℕ)
 valuesOf is os n long = listed 16 (valueAt is os n long)
 
-unfoldable pub cardOf : Edition → Edition → Nesting → Bool → Content
+unfoldable pub cardOf : Edition → Edition → Nesting → ℕ → Content
 cardOf i o n long = record { first = 0x92; free = replicate 12 0; last = 0; values = valuesOf (i .rows) (o .rows) n long }
 
--- the short one if it makes a template's 70 bytes
+-- whether a template has its 70 bytes with so many long rows
+unfoldable pub enough : Edition → Edition → Nesting → ℕ → Bool
+enough i o n long = leb 70 (templateLength (objectsOf (cardOf i o n long)))
+
+-- of k and what follows the first that will do; the one m further on where none before it does
+unfoldable pub firstFrom : (ℕ → Bool) → ℕ → ℕ → ℕ
+firstFrom f zero k = k
+firstFrom f (suc m) k = cond (f k) k (firstFrom f m (suc k))
+
+-- as few long rows as are enough, and all 16 where none are
 unfoldable pub chosenCard : Edition → Edition → Nesting → Content
-chosenCard i o n = cond (leb 70 (templateLength (objectsOf (cardOf i o n false)))) (cardOf i o n false) (cardOf i o n true)
+chosenCard i o n = cardOf i o n (firstFrom (enough i o n) 16 0)
 
 -- the empty record where no row of an object is told
 unfoldable pub exampleOf : Edition → Edition → Record

@@ -11,9 +11,9 @@ use nesting::Nesting;
 ghost use mathlib.Core.Path.{_≡_};
 ghost use mathlib.Core.List.{map};
 ghost use Rattle.card.specs.Content.{objectOf, recordOf};
-ghost use Rattle.example.specs.Cards.{valuesOf, cardOf, exampleOf};
+ghost use Rattle.example.specs.Cards.{valuesOf, cardOf, chosenCard, exampleOf};
 
-fn objects_of(inner: [Row; 17], outer: [Row; 17], told: Nesting, long: bool) -> [Object; 16]
+fn objects_of(inner: [Row; 17], outer: [Row; 17], told: Nesting, long: usize) -> [Object; 16]
     ensures { λ r. ⌜ r ≡ map objectOf (valuesOf inner outer told long) ⌝ }
 {
     let mut objects = [Object::ABSENT; 16];
@@ -28,7 +28,7 @@ fn objects_of(inner: [Row; 17], outer: [Row; 17], told: Nesting, long: bool) -> 
     objects
 }
 
-fn card_of(inner: Edition, outer: Edition, told: Nesting, long: bool) -> Record
+fn card_of(inner: Edition, outer: Edition, told: Nesting, long: usize) -> Record
     ensures { λ r. ⌜ r ≡ recordOf (inner .number) (cardOf inner outer told long) ⌝ }
 {
     let rows = inner.rows;
@@ -42,7 +42,21 @@ fn card_of(inner: Edition, outer: Edition, told: Nesting, long: bool) -> Record
     }
 }
 
-// The shortest such card, or, where it has less than a template's 70 bytes, one with its first objects as long as can be.
+// The first rows are as long as can be: as few of them as give the template its 70 bytes, and all 16 where none do.
+fn chosen_card(inner: Edition, outer: Edition, told: Nesting) -> Record
+    ensures { λ r. ⌜ r ≡ recordOf (inner .number) (chosenCard inner outer told) ⌝ }
+{
+    let mut long: usize = 0;
+    while long < 16 {
+        let record = card_of(inner, outer, told, long);
+        if checks::objects_size(record) + 3 >= 70 {
+            return record;
+        }
+        long += 1;
+    }
+    card_of(inner, outer, told, 16)
+}
+
 pub fn example(inner: Edition, outer: Edition) -> Record
     ensures { λ r. ⌜ r ≡ exampleOf inner outer ⌝ }
 {
@@ -50,9 +64,5 @@ pub fn example(inner: Edition, outer: Edition) -> Record
     if told.row >= 16 {
         return Record::empty();
     }
-    let short = card_of(inner, outer, told, false);
-    if checks::objects_size(short) + 3 >= 70 {
-        return short;
-    }
-    card_of(inner, outer, told, true)
+    chosen_card(inner, outer, told)
 }

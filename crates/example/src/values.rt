@@ -16,14 +16,14 @@ const PLAIN: Row = Row {
     lengths: 0,
 };
 
-// What is asked of the object of row k: at the row told the clause; elsewhere 4 the shortest if it is required, or 5 the longest.
-pub(crate) fn part_of(told: Nesting, long: bool, k: usize) -> u8
+// What is asked of the object of row k: at the row told the clause; elsewhere 5 the longest, of the first `long` rows, or 4 the shortest if it is required.
+pub(crate) fn part_of(told: Nesting, long: usize, k: usize) -> u8
     ensures { λ r. ⌜ r ≡ partOf told long k ⌝ }
 {
     if k == told.row {
         return told.clause;
     }
-    if long & (k < 4) { 5 } else { 4 }
+    if k < long { 5 } else { 4 }
 }
 
 fn length_for(part: u8, inner: Row, outer: Row) -> u8

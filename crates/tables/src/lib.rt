@@ -70,13 +70,13 @@ fn find(name: &[u8]) -> Chosen
     read(name)
 }
 
-// The edition that word i names; a minus sign names none.
+// The edition that word i names; a word that begins with a minus sign, as an option does, names none.
 pub fn edition_at(i: usize) -> Chosen
     ensures { λ r. ⌜ r .status < 4 ⌝ }
 {
     let mut name = io::buffer();
     let length = os::arg(i, &mut name);
-    if ground::is_same(&name[..length], b"-") {
+    if ground::byte_at(&name[..length], 0) == b'-' {
         return none(words::misused(b"an edition is terminal, issue, or the file of a table"));
     }
     find(&name[..length])

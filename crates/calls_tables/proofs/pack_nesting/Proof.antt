@@ -1,4 +1,4 @@
--- `kvk::nestings::pack_nesting` meets its contract: the clause stands as the place of a refusal with no number, and yes is told as 1. Assumes nothing.
+-- The clause stands as the place of a refusal with no number, and yes is told as 1. Assumes nothing.
 use mathlib.Core.Path.{_≡_, refl, ap, _∙_}
 use mathlib.Core.Bool.{Bool, true, false, cond}
 use mir.Val.{boolByte}

@@ -1,8 +1,6 @@
--- `example::example` meets its contract: the record's size is that of the card that it is made of. Assumes nothing.
-use mathlib.Core.Path.{_∙_}
-use borrow.Author.Tests.{le-leb}
+-- `example::example` meets its contract: the empty record where no row of an object is told, and else the card chosen. Assumes nothing.
+use borrow.Author.Tests.{le-leb, lt-leb}
 use Rattle.example.specs.Cards.{exampleOf}
-use Rattle.example.proofs.Chosen.{example-short, example-long}
 use borrow.Author.Needs.{needs}
 use Rattle.example.proofs.example.Statement.{statement}
 use Rattle.example.proofs.example.Tie as tie
@@ -17,42 +15,12 @@ returns : tie.Need-returns
 unfolding exampleOf
 returns c = rw (← c .before .before .before .nested .ensures, le-leb _ _ (c .before .if1 .taken)) (c .empty .ensures)
 
-card-of-requires : tie.Need-card-of-requires
-card-of-requires c κs = search needs
-
-objects-size-requires : tie.Need-objects-size-requires
-objects-size-requires c κs = search needs
-
-add-if2 : tie.Need-add-if2
-add-if2 c = search needs
+chosen-card-requires : tie.Need-chosen-card-requires
+chosen-card-requires c κs = search needs
 
 returns-2 : tie.Need-returns-2
-returns-2 c =
-    let size = c .before in
-    let short = size .before in
-    let row = short .before in
-    example-short _ _ _ _ (size .objects-size .result) (row .before .before .nested .ensures) (row .if1 .left) (short .card-of .ensures) (size .objects-size .ensures .1) (c .if2 .taken)
-
-card-of-requires-2 : tie.Need-card-of-requires-2
-card-of-requires-2 c κs = search needs
-
-returns-3 : tie.Need-returns-3
-returns-3 c =
-    let size = c .before .before in
-    let short = size .before in
-    let row = short .before in
-    c .card-of2 .ensures ∙ example-long _ _ _ _ (size .objects-size .result) (row .before .before .nested .ensures) (row .if1 .left) (short .card-of .ensures) (size .objects-size .ensures .1) (c .before .if2 .left)
+unfolding exampleOf
+returns-2 c = rw (← c .before .before .before .nested .ensures, lt-leb _ _ (c .before .if1 .left)) (c .chosen-card .ensures)
 
 pub example-spec : {M : Type 1} → statement M
-example-spec =
-    tie.close
-    (tie.spec
-    nested-requires
-    empty-requires
-    returns
-    card-of-requires
-    objects-size-requires
-    add-if2
-    returns-2
-    card-of-requires-2
-    returns-3)
+example-spec = tie.close (tie.spec nested-requires empty-requires returns chosen-card-requires returns-2)
