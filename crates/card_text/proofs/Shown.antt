@@ -1,18 +1,24 @@
 -- Each byte of text has a letter: up to '7E' by a test that is computed, and past it no byte is text. Assumes nothing.
-use Prim.Native.Nat.{ℕ, zero, suc, _≤_, _<_}
+use Prim.Native.Nat.{ℕ, suc, _-_, _≤_, _<_}
 use native.Mathlib.Omega.{arith}
 use borrow.Author.Tests.{leb-true, leb-false, le-leb, lt-leb, ne-eqb}
-use mathlib.Core.Path.{_≡_, refl, sym, ap, _∙_}
+use mathlib.Core.Path.{_≡_, refl, sym, ap, ap₂, _∙_}
 use mathlib.Core.Bool.{Bool, true, false, cond, not, _&&_}
-use mathlib.Core.List.{List, [], _∷_}
+use mathlib.Core.List.{List, [], _∷_, _++_}
 use lib.Dec.{leb}
-use lib.ListN.{length}
+use lib.ListN.{length, take, replicate, length-append, length-replicate}
+use lib.Seq.{take-all}
 use Rattle.ground.specs.Lists.{among, leading}
-use Rattle.ground.proofs.Lists.{true-false, alikeBelow, alike-below, leading-most}
+use Rattle.ground.proofs.Lists.{true-false, alikeBelow, alike-below}
 use Rattle.rules.specs.Values.{isText}
-use Rattle.letters.specs.Letters.{hasLetter, haveLetters}
+use Rattle.letters.specs.Letters.{utf8, hasLetter, haveLetters}
 use Rattle.letters.proofs.Inverse.{bytes-come-back}
-use Rattle.card_text.specs.Values.{TextComesBack}
+use Rattle.card.specs.declared.Object.{Object}
+use Rattle.card.specs.Content.{objectOf}
+use Rattle.card_text.specs.Faults.{coded}
+use Rattle.card_text.specs.Records.{objectSaid}
+use Rattle.card_text.specs.Values.{TextComesBack, ObjectComesBack}
+use Rattle.card_text.proofs.Filling.{filled}
 
 abbrev without : ℕ → Bool
 without b = isText b && not (hasLetter b)
@@ -76,3 +82,17 @@ letters-all (b ∷ v) h = go (isText b) refl h (letters-all v)
 
 pub text-comes-back : TextComesBack
 text-comes-back v h = bytes-come-back v (letters-all v h)
+
+-- the bytes fill up what the value leaves
+filled-up : (k : ℕ) (v : List ℕ) → length v ≤ k → take k (v ++ replicate k 0) ≡ v ++ replicate (k - length v) 0
+filled-up k v h = filled k k (k - length v) v (omega arith) (omega arith) ∙ take-all k (v ++ replicate (k - length v) 0) (rw (length-append, length-replicate) (omega arith))
+
+abbrev objectWith : ℕ → List ℕ → Object
+objectWith n bs = record { length = n; bytes = bs }
+
+pub object-comes-back : ObjectComesBack
+unfolding objectSaid objectOf coded
+object-comes-back v h s =
+    let back : coded (utf8 v) ≡ v = ap (take 255) (text-comes-back v h .back) ∙ take-all 255 v (omega arith) in
+    let same : length (coded (utf8 v)) ≡ length v = ap length back in
+    ap₂ objectWith same (ap (λ (l : List ℕ). take 28 (l ++ replicate 28 0)) back ∙ filled-up 28 v s)

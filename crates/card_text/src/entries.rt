@@ -1,28 +1,45 @@
 // The lines that speak of something.
-use crate::lines;
-use crate::names;
+ghost use mathlib.Core.Path.{_≡_};
+ghost use Rattle.card_lines.specs.Lines.{lines};
+ghost use Rattle.card_text.specs.Entries.{partOf, lineFrom, lineWith, lineOf, valueOf};
 
 // A line of a text: its number, counted from 1, and 0 where there is none; where it starts, and where its line feed stands.
-pub struct Found {
-    pub line: usize,
-    pub start: usize,
-    pub feed: usize,
+struct Found {
+    line: usize,
+    start: usize,
+    feed: usize,
 }
 
-// The first line with this key: 0 to 15 the objects in card order, 16 address 0, 17 the free bytes, 18 the last byte.
-pub fn entry(text: &[u8], key: usize) -> Found {
+// A part of a text, and the empty part where there is none.
+fn part(text: &[u8], start: usize, end: usize) -> &[u8]
+    ensures { λ r. ⌜ now r ≡ partOf (now (text .entry)) start end ⌝ }
+{
+    if end > text.len() {
+        return &text[0..0];
+    }
+    if start > end {
+        return &text[0..0];
+    }
+    &text[start..end]
+}
+
+// The first line with this key.
+fn entry(text: &[u8], key: usize) -> Found
+    ensures { λ r. ⌜ r .line ≡ lineFrom key 1 (lines (now (text .entry))) ⌝ }
+    ensures { λ r. ⌜ partOf (now (text .entry)) (r .start) (r .feed) ≡ lineWith key (lines (now (text .entry))) ⌝ }
+{
     let mut at = 0;
     let mut line = 1;
     while at < text.len() {
-        let feed = lines::find(text, at, b'\n');
-        if names::key_of(lines::line_part(text, at, feed)) == key {
+        let feed = card_lines::feed_from(text, at);
+        if card_lines::key_of(&text[at..feed]) == key {
             return Found {
                 line,
                 start: at,
                 feed,
             };
         }
-        at = lines::behind(text.len(), feed);
+        at = feed + 1;
         line += 1;
     }
     Found {
@@ -32,8 +49,17 @@ pub fn entry(text: &[u8], key: usize) -> Found {
     }
 }
 
+// The number of the first line with this key, counted from 1; 0 where there is none. The keys are those of `card_lines::key_of`.
+pub fn line_of(text: &[u8], key: usize) -> usize
+    ensures { λ r. ⌜ r ≡ lineOf key (now (text .entry)) ⌝ }
+{
+    entry(text, key).line
+}
+
 // The value that the first line with this key gives; empty where there is none.
-pub fn value(text: &[u8], key: usize) -> &[u8] {
+pub fn value(text: &[u8], key: usize) -> &[u8]
+    ensures { λ r. ⌜ now r ≡ valueOf key (now (text .entry)) ⌝ }
+{
     let place = entry(text, key);
-    lines::value_part(lines::line_part(text, place.start, place.feed))
+    card_lines::value_in(part(text, place.start, place.feed))
 }

@@ -1,8 +1,12 @@
 // Bytes as hex digits.
+ghost use mathlib.Core.Path.{_≡_};
 ghost use Prim.Native.Nat.{_<_};
+ghost use Rattle.ground.specs.Lists.{leading};
+ghost use Rattle.card_text.specs.Hex.{digitValue, isDigit, isHex, byteAt};
 
 // What a hex digit stands for; 16 where it is none.
 fn digit_value(digit: u8) -> u8
+    ensures { λ r. ⌜ r ≡ digitValue digit ⌝ }
     ensures { λ r. ⌜ r < 17 ⌝ }
 {
     if digit < b'0' {
@@ -26,23 +30,31 @@ fn digit_value(digit: u8) -> u8
     16
 }
 
-// Whether a value is so many bytes in hex digits.
-pub(crate) fn is_hex(value: &[u8], count: usize) -> bool {
-    if value.len() / 2 != count {
-        return false;
-    }
+// How many hex digits stand at the head of a value.
+fn count_digits(value: &[u8]) -> usize
+    ensures { λ r. ⌜ r ≡ leading isDigit (now (value .entry)) ⌝ }
+{
     let mut i = 0;
     while i < value.len() {
         if digit_value(value[i]) > 15 {
-            return false;
+            return i;
         }
         i += 1;
     }
-    value.len() % 2 == 0
+    i
 }
 
-// The byte at a place of a value in hex digits.
-pub(crate) fn byte_at(value: &[u8], i: usize) -> u8 {
+// Whether a value is so many hex digits.
+pub(crate) fn is_hex(value: &[u8], digits: usize) -> bool
+    ensures { λ r. ⌜ r ≡ isHex (now (value .entry)) digits ⌝ }
+{
+    (value.len() == digits) & (count_digits(value) == digits)
+}
+
+// The byte at a place of a value in hex digits; 0 past the end.
+pub(crate) fn byte_at(value: &[u8], i: usize) -> u8
+    ensures { λ r. ⌜ r ≡ byteAt (now (value .entry)) i ⌝ }
+{
     if i >= value.len() / 2 {
         return 0;
     }

@@ -4,14 +4,10 @@
 mod checks;
 mod entries;
 mod hex;
-mod lines;
-mod names;
 mod records;
 
 pub use checks::Fault;
 pub use checks::check;
-pub use entries::Found;
-pub use entries::entry;
+pub use entries::line_of;
 pub use entries::value;
-pub use names::put_name;
 pub use records::record_of;

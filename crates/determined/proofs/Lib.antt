@@ -10,3 +10,4 @@ pub mod Days
 pub mod Nestings
 pub mod TableTexts
 pub mod Letters
+pub mod CardTexts

@@ -48,7 +48,7 @@ fn put_line(line: usize) {
 
 fn put_name(key: usize) {
     let mut room = [0u8; 20];
-    let end = card_text::put_name(&mut room, 0, key);
+    let end = card_lines::put_name(&mut room, 0, key);
     put_first(&room, end);
 }
 
@@ -127,12 +127,12 @@ fn put_object(tag: u8) {
 // 3
 fn say_end(text: &[u8], first: u8, last: u8) {
     if card::allows_first(first) {
-        put_line(card_text::entry(text, LAST).line);
+        put_line(card_text::line_of(text, LAST));
         put(b"the last byte is ");
         put_byte(last);
         put(b", '00' is due, or 'FF' where address 0 is '82'\n");
     } else {
-        put_line(card_text::entry(text, FIRST).line);
+        put_line(card_text::line_of(text, FIRST));
         put(b"address 0 is ");
         put_byte(first);
         put(b", '82', '92' or 'A2' is due\n");
@@ -167,7 +167,7 @@ fn say_letter(item: Object, place: usize) {
 fn say_object(text: &[u8], content: Record, refusal: Refusal) {
     let number = refusal.number;
     let row = row_of(refusal.tag);
-    put_line(card_text::entry(text, row).line);
+    put_line(card_text::line_of(text, row));
     put_object(refusal.tag);
     match number {
         6 => put(b", is missing\n"),

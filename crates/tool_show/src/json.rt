@@ -28,7 +28,7 @@ fn join(room: &mut [u8], at: usize, end: usize) {
 // Puts a key, with what stands before its value.
 fn put_key(room: &mut [u8], at: usize, key: usize) -> usize {
     let start = ground::put(room, at, b",\n  \"");
-    let end = card_text::put_name(room, start, key);
+    let end = card_lines::put_name(room, start, key);
     join(room, start, end);
     ground::put(room, end, b"\": \"")
 }

@@ -9,7 +9,7 @@ fn put_object(room: &mut [u8], at: usize, row: usize, item: Object) -> usize {
     if item.length == 0 {
         return at;
     }
-    let behind_name = card_text::put_name(room, at, row);
+    let behind_name = card_lines::put_name(room, at, row);
     let start = ground::put(room, behind_name, b": ");
     let end = put_value(room, start, row, item);
     ground::put(room, end, b"\n")

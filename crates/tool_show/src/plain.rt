@@ -11,7 +11,7 @@ const LAST: usize = 18;
 
 // Puts the start of a line.
 fn put_name(room: &mut [u8], at: usize, key: usize) -> usize {
-    let behind_name = card_text::put_name(room, at, key);
+    let behind_name = card_lines::put_name(room, at, key);
     ground::put(room, behind_name, b": ")
 }
 

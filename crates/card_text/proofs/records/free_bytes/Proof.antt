@@ -1,41 +1,49 @@
--- `card_text::records::free_bytes` is safe and ends: each of the twelve bytes is stored once. Assumes nothing.
-use Prim.Native.Nat.{_+_, _-_, _≤_}
+-- `records::free_bytes`: the bytes passed are those listed. Assumes nothing.
+use Prim.Native.Nat.{_-_, _≤_, _<_}
 use native.Mathlib.Omega.{arith}
-use mathlib.Core.Path.{_≡_}
-use borrow.Author.Needs.{needs}
-use lib.ListN.{length}
+use mathlib.Core.Path.{_≡_, refl}
+use lib.ListN.{length, take}
+use lib.ListN.{length-set}
+use Rattle.card_text.specs.Records.{listed, freeSaid}
+use Rattle.card_text.specs.Hex.{byteAt}
+use Rattle.card_text.proofs.Listed.{listed-more, listed-all}
 use Rattle.card_text.proofs.records.free_bytes.Statement.{statement}
 use Rattle.card_text.proofs.records.free_bytes.Tie as tie
 
 abbrev Inv-loop : tie.InvT-loop
-Inv-loop text free₀ i₀ free i = (i ≤ 12) × (length free ≡ 12)
+Inv-loop value free₀ i₀ free i = (i ≤ 12) × (length free ≡ 12) × (take i free ≡ listed i (byteAt value))
 
 abbrev μ-loop : tie.MeasureT-loop
-μ-loop text free₀ i₀ free i = 12 - i
+μ-loop value free₀ i₀ free i = 12 - i
 
 loop-holds : tie.Need-loop-holds Inv-loop μ-loop
-loop-holds c = search needs
-
-value-requires : tie.Need-value-requires Inv-loop μ-loop
-value-requires c κs = search needs
+unfolding listed
+loop-holds c = (omega arith, refl, refl)
 
 byte-at-requires : tie.Need-byte-at-requires Inv-loop μ-loop
-byte-at-requires c κs = search needs
+byte-at-requires c κs = tt
 
 array-write-free : tie.Need-array-write-free Inv-loop μ-loop
-array-write-free c = search needs
+array-write-free c = omega arith
 
 add-i : tie.Need-add-i Inv-loop μ-loop
-add-i c = search needs
+add-i c = omega arith
 
 loop-less : tie.Need-loop-less Inv-loop μ-loop
-loop-less c = search needs
+loop-less c = omega arith
 
 loop-again : tie.Need-loop-again Inv-loop μ-loop
-loop-again c = search needs
+loop-again c =
+    let l = c .before .before .loop in
+    let h : l .i < length (l .free) = omega arith in
+    (omega arith, simp length-set (omega arith), listed-more (byteAt (c .before .before .before .before .args .value .now)) (l .free) (l .i) (l .inv .2) h (c .byte-at .ensures))
 
 returns : tie.Need-returns Inv-loop μ-loop
-returns c = search needs
+unfolding freeSaid
+returns c =
+    let l = c .before .loop in
+    let e : l .i ≡ 12 = omega arith in
+    rw e at (listed-all (byteAt (c .before .before .before .args .value .now)) (l .free) (l .i) (l .inv .2) (omega arith))
 
 pub free-bytes-spec : {M : Type 1} → statement M
 free-bytes-spec =
@@ -44,7 +52,6 @@ free-bytes-spec =
     Inv-loop
     μ-loop
     loop-holds
-    value-requires
     byte-at-requires
     array-write-free
     add-i
