@@ -10,7 +10,7 @@ use lib.ListN.{length, take, length-append}
 use lib.Seq.{sets}
 use Rattle.ground.specs.Pieces.{joined}
 use Rattle.card.specs.declared.Refusal.{Refusal}
-use Rattle.card.specs.Refusals.{refuse, none, gate, orElse}
+use Rattle.card.specs.Refusals.{refuse, none, gate}
 use Rattle.day_index.specs.Order.{flat}
 use Rattle.day_index.proofs.Parts.{flat-append, flat-pieces}
 use Rattle.day_cards.specs.Cards.{isCard}

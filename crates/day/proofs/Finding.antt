@@ -8,20 +8,20 @@ use mathlib.Core.Path.{_≡_, refl, sym, ap, ap₂, _∙_}
 use mathlib.Core.Bool.{Bool, true, false, cond, not, _&&_, _||_}
 use mathlib.Core.List.{List, [], _∷_, _++_, map}
 use lib.Dec.{eqb, leb, ltb}
-use lib.ListN.{length, getD, set, take, drop, replicate, length-append}
+use lib.ListN.{length, getD, set, take, drop, replicate}
 use lib.Seq.{sets, sets-eq, length-sets, take-take, getD-take, getD-drop}
 use Rattle.ground.specs.Lists.{leading}
 use Rattle.rules.specs.Values.{isDigit}
 use Rattle.ground.proofs.Lists.{and-left, and-right, leading-alike}
 use Rattle.card.specs.declared.Refusal.{Refusal}
-use Rattle.card.specs.Refusals.{refuse, none, gate, orElse}
+use Rattle.card.specs.Refusals.{refuse, none, gate}
 use Rattle.card.proofs.Chains.{neither, gate-in}
 use Rattle.ground.specs.Pieces.{pieces}
 use Rattle.ground.specs.Lists.{sameList}
 use Rattle.day_index.specs.Order.{rankOf}
 use Rattle.day_index.proofs.Parts.{piece-at}
 use Rattle.day_cards.specs.Cards.{padded, entry, isCard, numberOf}
-use Rattle.day.specs.Index.{indexOf, positionOf, lookup}
+use Rattle.day.specs.Index.{positionOf, lookup}
 use Rattle.day.specs.Files.{Cards, no-cards, one-card, indexBytes, countIn, imagesIn, fileRefusal}
 use Rattle.day.specs.Calls.{answered, numberFormed, hasNumber, firstWith, findRefusal, findAnswer}
 use Rattle.day_cards.proofs.Padded.{entry-stored}

@@ -1,18 +1,18 @@
 -- A search of the index finds the first card of a number. Assumes nothing.
-use Prim.Native.Nat.{ℕ, zero, suc, _+_, _-_, _*_, _/_, _%_, _≤_, _<_}
+use Prim.Native.Nat.{ℕ, _+_, _-_, _*_, _/_, _%_, _≤_, _<_}
 use native.Mathlib.Omega.{arith}
 use native.Mathlib.Decide.{decLe}
-use borrow.Author.Tests.{eqb-true, eqb-false, ltb-true, ltb-false, eq-eqb, ne-eqb, le-ltb, lt-ltb, not-true, not-false}
+use borrow.Author.Tests.{eqb-true, eqb-false, ltb-true, ltb-false, eq-eqb, ne-eqb, le-ltb, lt-ltb, not-false}
 use mathlib.Core.Path.{_≡_, refl, sym, ap, ap₂, _∙_}
 use mathlib.Core.Bool.{Bool, true, false, cond, not, _&&_}
 use mathlib.Core.List.{List, [], _∷_, _++_}
 use lib.Dec.{eqb, ltb}
-use lib.ListN.{length, getD, take, length-append}
+use lib.ListN.{length, getD, take}
 use lib.Seq.{take-at, getD-at, getD-append-add}
 use Rattle.ground.specs.Lists.{leading}
 use Rattle.ground.proofs.Lists.{true-false, leading-most, leading-before, leading-at}
 use Rattle.ground.specs.Lists.{sameList}
-use Rattle.day_index.specs.Order.{below, Sorted, rankOf}
+use Rattle.day_index.specs.Order.{below, rankOf}
 use Rattle.day_index.proofs.Inserts.{sorted-at}
 use Rattle.day_cards.specs.Cards.{padded, twoBytes, entry}
 use Rattle.day.specs.Index.{indexOf, positionOf, lookup}
@@ -20,7 +20,7 @@ use Rattle.day_cards.proofs.Padded.{length-padded}
 use Rattle.day.proofs.Entries.{length-index, index-sorted}
 use Rattle.day.proofs.Opens.{same-self}
 use Rattle.ground.proofs.Lists.{same-equal}
-use Rattle.day.proofs.Members.{In, Place, Card, place-of, stands, index-has, index-only}
+use Rattle.day.proofs.Members.{Place, Card, place-of, stands, index-has, index-only}
 
 -- ---- runs that begin alike
 below-behind : (p a b : List ℕ) → below (p ++ a) (p ++ b) ≡ below a b

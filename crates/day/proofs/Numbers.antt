@@ -12,7 +12,7 @@ use lib.ListN.{length, getD, take, replicate}
 use lib.Seq.{take-append-add, take-append-seam}
 use Rattle.ground.specs.Lists.{leading, sameList}
 use Rattle.ground.proofs.Lists.{true-false, and-left, and-right, alike-below, leading-most, same-equal}
-use Rattle.rules.specs.Values.{isDigit, takes}
+use Rattle.rules.specs.Values.{isDigit}
 use Rattle.rules.specs.declared.Rule.the-variants.{Digits}
 use Rattle.rules.proofs.Verdicts.{taken-means}
 use Rattle.edition.specs.declared.Row.{Row}
@@ -20,7 +20,7 @@ use Rattle.edition.specs.Sets.{permitted}
 use Rattle.edition.specs.Rows.{tags, noRow}
 use Rattle.edition.specs.Tables.{terminal}
 use Rattle.edition.proofs.Sets.{beyond}
-use Rattle.card.specs.Content.{Content, contentOf, recordOf}
+use Rattle.card.specs.Content.{Content}
 use Rattle.card.specs.Rules.{Entry, entries, objectRows, RowMet, AllMet, none-left, one-more}
 use Rattle.card.specs.Reading.{accepted, readRefusal, contentAt, walkOf, valuesIn, answered as told, answer, answerOf}
 use Rattle.card.proofs.Records.{content-back}

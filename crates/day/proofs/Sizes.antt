@@ -1,21 +1,20 @@
 -- The sizes of cards and files, and a file in a room. Assumes nothing.
-use Prim.Native.Nat.{ℕ, _+_, _-_, _*_, _≤_, _<_}
+use Prim.Native.Nat.{ℕ, _+_, _-_, _≤_}
 use native.Mathlib.Omega.{arith}
 use borrow.Author.Tests.{eq-eqb, ne-eqb, eqb-true}
-use mathlib.Core.Path.{_≡_, refl, sym, ap, _∙_}
-use mathlib.Core.Bool.{Bool, true, false, cond}
-use mathlib.Core.List.{List, [], _∷_, _++_, append-nil}
+use mathlib.Core.Path.{_≡_, refl, ap, _∙_}
+use mathlib.Core.Bool.{Bool, true, false}
+use mathlib.Core.List.{List, [], _∷_, _++_}
 use lib.Dec.{eqb}
-use lib.ListN.{length, take, drop, length-append}
+use lib.ListN.{length, drop, length-append}
 use lib.Seq.{sets, sets-eq}
 use Rattle.ground.proofs.Lists.{true-false}
 use Rattle.edition.specs.Tables.{terminal}
 use Rattle.card.specs.declared.Refusal.{Refusal}
 use Rattle.card.specs.Refusals.{gate, orElse}
 use Rattle.card.specs.Reading.{readRefusal, answered as told, answer, answerOf}
-use Rattle.day_index.proofs.Parts.{Sized, sized-none, sized-more, length-flat, flat-append, flat-pieces, length-pieces}
+use Rattle.day_index.proofs.Parts.{Sized, sized-none, sized-more, length-flat, length-pieces}
 use Rattle.day_index.specs.Order.{flat}
-use Rattle.day.specs.declared.Answer.{Answer}
 use Rattle.day_cards.specs.Cards.{isCard}
 use Rattle.day.specs.Files.{Cards, no-cards, one-card, fileOf, trailer, indexBytes, sizeOf, countIn, imagesIn}
 use Rattle.day.specs.Calls.{answered, roomAfter}

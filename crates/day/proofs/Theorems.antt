@@ -1,5 +1,5 @@
 -- What is proved of day files: a file is the file of its images; an added card's file is the one built afresh; what is found is the first. Assumes nothing.
-use Prim.Native.Nat.{ℕ, zero, suc, _+_, _-_, _*_, _/_, _%_, _≤_, _<_}
+use Prim.Native.Nat.{ℕ, suc, _+_, _-_, _*_, _/_, _%_, _≤_, _<_}
 use native.Mathlib.Omega.{arith}
 use native.Mathlib.Decide.{decLe}
 use borrow.Author.Tests.{eq-eqb, not-false}
@@ -8,7 +8,6 @@ use mathlib.Core.Bool.{Bool, true, false, cond, not}
 use mathlib.Core.List.{List, [], _∷_, _++_, append-assoc, append-nil}
 use lib.ListN.{length, getD, take, drop, length-append, take-append-drop}
 use lib.Seq.{drop-drop, take-at, drop-at, getD-append-add}
-use Rattle.ground.specs.Lists.{leading}
 use Rattle.ground.proofs.Lists.{true-false, leading-before, leading-at}
 use Rattle.card.specs.declared.Refusal.{Refusal}
 use Rattle.card.specs.Refusals.{none}
@@ -16,18 +15,18 @@ use Rattle.ground.specs.Pieces.{pieces}
 use Rattle.ground.specs.Lists.{sameList}
 use Rattle.day_index.specs.Order.{below, insert, flat}
 use Rattle.day_index.proofs.Parts.{length-pieces, length-flat, pieces-flat, flat-pieces}
-use Rattle.day_cards.specs.Cards.{entry, isCard, numberOf}
+use Rattle.day_cards.specs.Cards.{entry, numberOf}
 use Rattle.day.specs.Index.{indexFrom, indexOf}
 use Rattle.day.specs.Files.{Cards, DayFile, fileOf, trailer, indexBytes, sizeOf, countIn, imagesIn, indexIn, fits, cardsRefusal, fileRefusal}
 use Rattle.day.specs.Calls.{answered, roomAfter, numberFormed, hasNumber, firstWith, findRefusal, findAnswer, addRefusal, addAnswer, addRoom, laidImages, buildRefusal, buildAnswer, buildRoom}
 use Rattle.day.proofs.Entries.{length-index-bytes, index-sorted}
 use Rattle.day.proofs.Turns.{all-cards}
 use Rattle.day.proofs.Frames.{by-trailer}
-use Rattle.day.proofs.Opens.{Opened, opened, same-self, file-opens}
+use Rattle.day.proofs.Opens.{opened, same-self, file-opens}
 use Rattle.ground.proofs.Lists.{same-equal}
 use Rattle.day.proofs.Sizes.{cards-sized, length-images, length-file}
 use Rattle.day.proofs.Adds.{Added, added, add-none, more-cards}
-use Rattle.day.proofs.Builds.{Built, built, build-none}
+use Rattle.day.proofs.Builds.{built, build-none}
 use Rattle.day.proofs.Finding.{find-none, found-there, told-none}
 use Rattle.day.proofs.Only.{one-order}
 use Rattle.day.specs.Promises.{Exactly, AddedAfresh, BuiltBack, times, entriesFrom, IsIndex, OneIndex, HasAt, Lowest, FindsFirst, FindsNone}

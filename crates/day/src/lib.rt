@@ -1,4 +1,6 @@
-// The day file: a round of visits as one file of images, their index and a trailer.
+// The day file, a round of visits: the images in order of reading, their index and a trailer; counted, looked up, added to, built.
+// Any bytes may be lent as a file, an image, a number or a room. Where the file is kept, and that the room is kept, is the caller's.
+// Each call checks the whole file, every image and the index, before it answers; building more than 200 images reads them all first.
 mod cards;
 mod finds;
 mod trailers;

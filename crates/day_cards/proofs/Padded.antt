@@ -5,7 +5,7 @@ use native.Mathlib.Numerals.{add-one}
 use native.Mathlib.Omega.{arith}
 use mathlib.Core.Path.{_≡_, refl, sym, ap, _∙_}
 use mathlib.Core.List.{List, [], _∷_, _++_, append-nil, map}
-use lib.ListN.{length, getD, set, take, replicate, length-append, length-replicate, getD-replicate, List·getD-append, drop-of-length-le}
+use lib.ListN.{length, getD, set, take, replicate, length-append, getD-replicate, List·getD-append, drop-of-length-le}
 use lib.Seq.{take-suc, take-suc-set, length-take-le, getD-take, getD-append-add, sets-eq}
 use Rattle.edition.specs.Tables.{terminal}
 use Rattle.card.specs.declared.Object.{Object}

@@ -2,7 +2,7 @@
 use crate::inputs;
 use crate::refusals;
 use card::Refusal;
-ghost use Prim.Native.Nat.{_<_, _≤_};
+ghost use Prim.Native.Nat.{_<_};
 
 // Puts the card in the file that word i names at its place among the images.
 fn read_card(i: usize, position: usize, images: &mut [u8]) -> u8

@@ -1,8 +1,7 @@
 -- `day::check_add` meets its contract: 40 to 42, then 43, 45 and 41 in turn; then the entry of the card is put into the index. Assumes nothing.
 use mathlib.Core.Path.{_≡_, sym, ap, _∙_}
-use mathlib.Core.Bool.{Bool, true, false}
-use mathlib.Core.List.{List}
-use Prim.Native.Nat.{ℕ, _+_, _*_, _/_, _≤_, _<_}
+use mathlib.Core.Bool.{true, false}
+use Prim.Native.Nat.{ℕ, _+_, _*_, _/_, _<_}
 use native.Mathlib.Omega.{arith}
 use borrow.Author.Tests.{not-true, not-false}
 use lib.ListN.{length, take}
@@ -10,7 +9,7 @@ use Rattle.card.specs.declared.Refusal.{Refusal}
 use Rattle.card.specs.Refusals.{refuse}
 use Rattle.day_cards.specs.declared.Card.{Card}
 use Rattle.day_cards.specs.Cards.{isCard}
-use Rattle.day.specs.Files.{sizeOf, countIn, imagesIn, fileRefusal}
+use Rattle.day.specs.Files.{imagesIn, fileRefusal}
 use Rattle.day_cards.proofs.Padded.{length-entry}
 use Rattle.day_index.proofs.Moves.{entry-in}
 use Rattle.day.proofs.Entries.{put-next}

@@ -1,13 +1,12 @@
 -- `day::find` meets its contract. Assumes nothing.
 use mathlib.Core.Path.{_≡_, sym, ap, _∙_}
-use mathlib.Core.Bool.{true, false}
-use mathlib.Core.List.{List}
-use Prim.Native.Nat.{ℕ, _*_, _≤_, _<_}
+use mathlib.Core.Bool.{true}
+use Prim.Native.Nat.{ℕ, _*_}
 use native.Mathlib.Omega.{arith}
 use borrow.Author.Tests.{not-true, not-false}
-use lib.ListN.{length, take}
+use lib.ListN.{take}
 use Rattle.card.specs.declared.Refusal.{Refusal}
-use Rattle.day.specs.Files.{countIn, imagesIn, indexBytes, fileRefusal}
+use Rattle.day.specs.Files.{imagesIn, indexBytes, fileRefusal}
 use Rattle.day.specs.Calls.{numberFormed, firstWith}
 use Rattle.day.proofs.Entries.{entries-sorted}
 use Rattle.day.proofs.Opens.{opened}

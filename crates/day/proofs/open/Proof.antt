@@ -1,16 +1,14 @@
 -- `day::open` meets its contract: 40, 41 and 42 in turn. Assumes nothing.
 use mathlib.Core.Path.{_≡_, sym, ap, ap₂, _∙_}
-use mathlib.Core.Bool.{Bool, true, false}
-use mathlib.Core.List.{List}
+use mathlib.Core.Bool.{true}
 use Prim.Native.Nat.{ℕ, _*_, _≤_}
 use native.Mathlib.Omega.{arith}
 use borrow.Author.Tests.{not-true, not-false}
 use lib.ListN.{length, take}
 use lib.Seq.{length-take-le}
 use Rattle.card.specs.declared.Refusal.{Refusal}
-use Rattle.ground.specs.Pieces.{pieces}
 use Rattle.ground.specs.Lists.{sameList}
-use Rattle.day.specs.Files.{fits, countIn, imagesIn, indexIn, indexBytes, cardsRefusal}
+use Rattle.day.specs.Files.{fits, imagesIn, indexBytes, cardsRefusal}
 use Rattle.day.proofs.Frames.{Framed, framed}
 use Rattle.day.proofs.Opens.{file-unframed, file-card, file-index, file-opens, images-lent, index-lent}
 use borrow.Author.Needs.{needs}

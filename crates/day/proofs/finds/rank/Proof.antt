@@ -1,11 +1,9 @@
 -- `day::finds::rank` meets its contract. The invariant: all before `low` come before the entry, and none from `high` on does. Assumes nothing.
-use mathlib.Core.Path.{_≡_, sym, ap, _∙_}
-use mathlib.Core.Bool.{Bool}
-use mathlib.Core.List.{List, []}
-use Prim.Native.Nat.{ℕ, _+_, _-_, _*_, _/_, _≤_, _<_}
+use mathlib.Core.Path.{sym, ap, _∙_}
+use mathlib.Core.List.{List}
+use Prim.Native.Nat.{ℕ, _+_, _-_, _/_, _≤_}
 use native.Mathlib.Omega.{arith}
 use borrow.Author.Needs.{needs}
-use lib.ListN.{length, getD}
 use Rattle.ground.specs.Pieces.{pieces}
 use Rattle.day_index.specs.Order.{below}
 use Rattle.day_index.proofs.Parts.{length-pieces, piece-lent}

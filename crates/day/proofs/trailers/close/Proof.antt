@@ -1,8 +1,8 @@
-use mathlib.Core.Path.{_≡_, ap, _∙_}
+-- `day::trailers::close` meets its contract. Assumes nothing.
+use mathlib.Core.Path.{ap, _∙_}
 use mathlib.Core.List.{List, _++_}
 use Prim.Native.Nat.{ℕ, _*_}
 use lib.Seq.{sets}
--- `day::trailers::close` meets its contract. Assumes nothing.
 use native.Mathlib.Omega.{arith}
 use Rattle.ground.proofs.Stores.{sets-then}
 use borrow.Author.Needs.{needs}
