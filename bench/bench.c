@@ -1,50 +1,27 @@
-/* Times the library and the second program, called in turn over the same cards and records.
-   The floor is what no reading could do without: the exclusive or of 256 bytes and a copy of 478. */
+/* Times the library and the second program, called in turn over the same cards and records, or makes the calls that a counter of
+   instructions follows between marks. The floor is what no reading could do without: the exclusive or of 256 bytes and a copy
+   of a record.
+
+   usage: bench make FILE     the cards and records
+          bench time FILE     a line for each corpus: nanoseconds of a call, and the ratio
+          bench count FILE    a line for each pair of marks: what was called, and how often
+          bench parts FILE    the same, over the gates */
 #define _POSIX_C_SOURCE 199309L
 #include <stdio.h>
 #include <stdlib.h>
 #include <string.h>
 #include <time.h>
 
-#include "chance.h"
+#include "corpora.h"
 #include "kvk.h"
-#include "material.h"
+#include "mark.h"
 
-enum { ITEMS = 512, REPEATS = 40, ROUNDS = 21 };
-
-typedef uint64_t function(const uint8_t *edition, size_t edition_len,
-                          const uint8_t *source, size_t source_len,
-                          uint8_t *room, size_t room_len);
-
-struct item {
-    uint8_t table[TABLE_SIZE];
-    uint8_t image[IMAGE_SIZE];
-    uint8_t record[RECORD_SIZE];
-};
-
-/* Images or records, half of them for each edition, all accepted or all refused. */
-struct corpus {
-    const char *name;
-    function *library;
-    function *second;
-    int writing;
-    int refused;
-    struct item items[ITEMS];
-};
-
-static struct corpus corpora[] = {
-    {.name = "read accepted", .library = kvk_read, .second = second_read},
-    {.name = "read refused", .library = kvk_read, .second = second_read, .refused = 1},
-    {.name = "write accepted", .library = kvk_write, .second = second_write, .writing = 1},
-    {.name = "write refused", .library = kvk_write, .second = second_write, .writing = 1, .refused = 1}
-};
-
-enum { CORPORA = sizeof corpora / sizeof corpora[0] };
+enum { REPEATS = 40, ROUNDS = 21 };
 
 static volatile uint64_t sink;
 static uint8_t room[RECORD_SIZE];
 
-/* The corpora */
+/* Calls */
 
 static uint64_t answer_of(function *work, const struct item *item, int writing)
 {
@@ -53,41 +30,35 @@ static uint64_t answer_of(function *work, const struct item *item, int writing)
     return work(item->table, TABLE_SIZE, item->image, IMAGE_SIZE, room, RECORD_SIZE);
 }
 
-static void make_item(struct item *item, const uint8_t *table, int damaged)
+static uint64_t least_work(const struct item *item)
 {
-    static struct stock stock;
-
-    while (!stock_up(&stock, table))
-        continue;
-    memcpy(item->table, table, TABLE_SIZE);
-    memcpy(item->record, stock.record, RECORD_SIZE);
-    if (damaged) {
-        damage_record(item->record, table);
-        damage_card(&stock);
-    }
-    memcpy(item->image, stock.draft.image, IMAGE_SIZE);
-}
-
-static void make_corpus(struct corpus *corpus)
-{
-    uint8_t tables[2][TABLE_SIZE];
+    uint8_t sum = 0;
     size_t i;
 
-    fprintf(stderr, "bench: making %d items for '%s'\n", ITEMS, corpus->name);
-    second_edition(EDITION_TERMINAL, tables[0], TABLE_SIZE);
-    second_edition(EDITION_ISSUE, tables[1], TABLE_SIZE);
-    for (i = 0; i < ITEMS; i++) {
-        uint64_t answer;
-        do {
-            make_item(&corpus->items[i], tables[i % 2], corpus->refused);
-            answer = answer_of(corpus->second, &corpus->items[i], corpus->writing);
-        } while ((answer != 0) != corpus->refused);
-        if (answer_of(corpus->library, &corpus->items[i], corpus->writing) != answer) {
-            fputs("bench: the library and the second program differ\n", stderr);
-            exit(1);
-        }
-    }
+    for (i = 0; i < IMAGE_SIZE; i++)
+        sum ^= item->image[i];
+    memcpy(room, item->record, RECORD_SIZE);
+    return sum;
 }
+
+static uint64_t no_least_work(const struct item *item)
+{
+    (void)item;
+    return 0;
+}
+
+static uint64_t no_work(const uint8_t *edition, size_t edition_len, const uint8_t *source, size_t source_len,
+                        uint8_t *filled, size_t filled_len)
+{
+    (void)edition, (void)edition_len, (void)source, (void)source_len, (void)filled, (void)filled_len;
+    return 0;
+}
+
+/* Called through pointers, as the others are, so that the compiler leaves none of it out. */
+typedef uint64_t floor_function(const struct item *item);
+static floor_function *volatile floor_work = least_work;
+static floor_function *volatile no_floor_work = no_least_work;
+static function *volatile nothing = no_work;
 
 /* Times */
 
@@ -111,20 +82,6 @@ static double time_calls(const struct corpus *corpus, function *work)
     }
     return (now() - start) / (ITEMS * REPEATS);
 }
-
-static uint64_t least_work(const struct item *item)
-{
-    uint8_t sum = 0;
-    size_t i;
-
-    for (i = 0; i < IMAGE_SIZE; i++)
-        sum ^= item->image[i];
-    memcpy(room, item->record, RECORD_SIZE);
-    return sum;
-}
-
-/* Called through a pointer, as the others are, so that the compiler leaves none of it out. */
-static uint64_t (*volatile floor_work)(const struct item *item) = least_work;
 
 static double time_floor(const struct corpus *corpus)
 {
@@ -152,34 +109,139 @@ static double median(double *times)
     return times[ROUNDS / 2];
 }
 
-static void measure(const struct corpus *corpus)
+static void time_corpus(const struct corpus *corpus)
 {
     double library[ROUNDS], second[ROUNDS], least[ROUNDS], ratio[ROUNDS];
     size_t round;
 
-    fprintf(stderr, "bench: timing '%s', %d of %d\n", corpus->name, (int)(corpus - corpora) + 1, (int)CORPORA);
+    fprintf(stderr, "bench: timing '%s', %s, %d of %d\n", corpus->name, corpus->group, (int)(corpus - corpora) + 1,
+            (int)CORPORA);
     for (round = 0; round < ROUNDS; round++) {
         library[round] = time_calls(corpus, corpus->library);
         second[round] = time_calls(corpus, corpus->second);
         least[round] = time_floor(corpus);
         ratio[round] = library[round] / second[round];
     }
-    printf("%-16s %8.1f %8.1f %8.1f %16.2f\n", corpus->name, median(library), median(second), median(least),
+    printf("%s\t%s\t%.1f\t%.1f\t%.1f\t%.3f\n", corpus->group, corpus->name, median(library), median(second), median(least),
            median(ratio));
-    fflush(stdout);
 }
 
-int main(void)
+static void time_corpora(void)
 {
     size_t i;
 
-    chance_seed(1);
+    printf("%d\t%d\n", ROUNDS, ITEMS * REPEATS);
     for (i = 0; i < CORPORA; i++)
-        make_corpus(&corpora[i]);
-    printf("Nanoseconds per call, and the ratio, as medians of %d rounds of %d calls.\n", ROUNDS, ITEMS * REPEATS);
-    printf("%-16s %8s %8s %8s %16s\n", "", "library", "second", "floor", "library/second");
-    fflush(stdout);
-    for (i = 0; i < CORPORA; i++)
-        measure(&corpora[i]);
-    return 0;
+        time_corpus(&corpora[i]);
+}
+
+/* Instructions */
+
+static void tell_label(const char *group, const char *name, const char *who)
+{
+    printf("%s\t%s\t%s\t%d\n", group, name, who, (int)COUNTED);
+}
+
+static void count_calls(const struct corpus *corpus, const char *who, function *work)
+{
+    size_t i;
+
+    tell_label(corpus->group, corpus->name, who);
+    mark();
+    for (i = 0; i < COUNTED; i++)
+        sink += answer_of(work, &corpus->items[i], corpus->writing);
+    mark();
+}
+
+static void count_floor(const struct corpus *corpus, const char *who, floor_function *work)
+{
+    size_t i;
+
+    tell_label(corpus->group, corpus->name, who);
+    mark();
+    for (i = 0; i < COUNTED; i++)
+        sink += work(&corpus->items[i]);
+    mark();
+}
+
+static void count_gate(const struct gate *gate, const char *who, function *work)
+{
+    size_t i;
+
+    tell_label(gate->writing ? "gates of writing" : "gates of reading", gate->name, who);
+    mark();
+    for (i = 0; i < COUNTED; i++) {
+        const struct item *item = &gate->items[i];
+        sink += work(item->table, TABLE_SIZE, gate->writing ? item->record : item->image, gate->source_length, room,
+                     gate->room_length);
+    }
+    mark();
+}
+
+static void count_corpora(void)
+{
+    size_t i;
+
+    for (i = 0; i < CORPORA; i++) {
+        count_calls(&corpora[i], "library", corpora[i].library);
+        count_calls(&corpora[i], "second", corpora[i].second);
+        count_calls(&corpora[i], "nothing", nothing);
+        count_floor(&corpora[i], "floor", floor_work);
+        count_floor(&corpora[i], "no floor", no_floor_work);
+    }
+}
+
+static void count_gates(void)
+{
+    size_t i;
+
+    for (i = 0; i < gate_count; i++) {
+        function *volatile library = gates[i].writing ? kvk_write : kvk_read;
+        function *volatile second = gates[i].writing ? second_write : second_read;
+        count_gate(&gates[i], "library", library);
+        count_gate(&gates[i], "second", second);
+        count_gate(&gates[i], "nothing", nothing);
+    }
+}
+
+/* The run */
+
+static int make(const char *path)
+{
+    make_corpora();
+    make_gates();
+    return save_items(path);
+}
+
+static int run(const char *path, void (*work)(void))
+{
+    if (!load_items(path))
+        return 0;
+    work();
+    return fflush(stdout) == 0 && !ferror(stdout);
+}
+
+/* 0 if it cannot be done, -1 if there is no such word. */
+static int do_word(const char *word, const char *path)
+{
+    if (strcmp(word, "make") == 0)
+        return make(path);
+    if (strcmp(word, "time") == 0)
+        return run(path, time_corpora);
+    if (strcmp(word, "count") == 0)
+        return run(path, count_corpora);
+    return strcmp(word, "parts") == 0 ? run(path, count_gates) : -1;
+}
+
+int main(int count, char **words)
+{
+    int done = count == 3 ? do_word(words[1], words[2]) : -1;
+
+    if (done < 0) {
+        fputs("usage: bench make FILE | time FILE | count FILE | parts FILE\n", stderr);
+        return 2;
+    }
+    if (done == 0)
+        fprintf(stderr, "bench: %s could not be read or written\n", words[2]);
+    return done ? 0 : 3;
 }
