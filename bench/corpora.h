@@ -6,7 +6,7 @@
 #include "card.h"
 
 /* Items of a corpus are timed, the first of them are counted; a gate has no more than are counted. */
-enum { ITEMS = 512, COUNTED = 64, CORPORA = 8, GATES_MAX = 40 };
+enum { ITEMS = 512, COUNTED = 64, CORPORA = 8 };
 
 typedef uint64_t function(const uint8_t *edition, size_t edition_len,
                           const uint8_t *source, size_t source_len,
