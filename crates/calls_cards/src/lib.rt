@@ -37,7 +37,7 @@ fn reading_of(table: &[u8], image: &[u8]) -> Reading
     if table.len() != 103 {
         return refused_reading(2);
     }
-    reader::read(wire_tables::edition_of(table), image)
+    reader::read_lent(table, image)
 }
 
 // Reads an image into a record of 479 bytes, under a table of 103 bytes.
@@ -66,11 +66,7 @@ fn written(table: &[u8], bytes: &[u8], image: &mut [u8]) -> Refusal
     if table.len() != 103 {
         return Refusal::new(2, 0, 0);
     }
-    writer::write(
-        wire_tables::edition_of(table),
-        wire_records::record_of(bytes),
-        image,
-    )
+    writer::write_lent(table, wire_records::record_of(bytes), image)
 }
 
 // Writes a record of 479 bytes into an image, under a table of 103 bytes.

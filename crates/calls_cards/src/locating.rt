@@ -14,7 +14,7 @@ fn places_of(table: &[u8], image: &[u8]) -> Places
     if table.len() != 103 {
         return Places::refused(Refusal::new(2, 0, 0));
     }
-    reader::places(wire_tables::edition_of(table), image)
+    reader::places_lent(table, image)
 }
 
 // Fills a room of 32 bytes with the start and the length of each object of an image.

@@ -14,7 +14,9 @@ ghost use mathlib.Core.Path.{_≡_};
 ghost use Rattle.card.specs.Content.{contentOf};
 ghost use Rattle.edition.specs.declared.Formed.the-variants.{Well};
 ghost use Rattle.edition.specs.Rows.{formedOf};
+ghost use Rattle.card.specs.Refusals.{badRow};
 ghost use Rattle.card.specs.Refusing.{endsRefusal, numberRefusal, contentRefusal, editionRefusal, writeRefusal};
+ghost use Rattle.wire_tables.specs.Tables.{lentEdition};
 
 // 3: address 0 and the last byte.
 fn check_ends(first: u8, last: u8) -> Refusal
@@ -65,18 +67,33 @@ pub fn check_content(edition: Edition, content: Record) -> Refusal
     refuse_content(edition, content)
 }
 
-// The first refusal of a record, in a buffer of `size` bytes.
-pub fn check(edition: Edition, content: Record, size: usize) -> Refusal
+// The same as check, under an edition whose refusal is known.
+fn check_under(known: Refusal, edition: Edition, content: Record, size: usize) -> Refusal
+    requires { ⌜ known ≡ badRow (formedOf edition) ⌝ }
     ensures { λ r. ⌜ r ≡ writeRefusal edition (content .number) (contentOf content) size ⌝ }
 {
     if size != 256 {
         return Refusal::new(20, 0, 0);
     }
-    let ill_formed = card::refuse_edition(edition);
-    if ill_formed.number != 0 {
-        return ill_formed;
+    if known.number != 0 {
+        return known;
     }
     let numbers = check_numbers(edition.number, content.number);
     let rest = refuse_content(edition, content);
     chain::first_of(numbers, rest)
+}
+
+// The first refusal of a record, in a buffer of `size` bytes.
+pub fn check(edition: Edition, content: Record, size: usize) -> Refusal
+    ensures { λ r. ⌜ r ≡ writeRefusal edition (content .number) (contentOf content) size ⌝ }
+{
+    check_under(card::refuse_edition(edition), edition, content, size)
+}
+
+// The same as check, under the edition of a lent table.
+pub fn check_lent(table: &[u8], content: Record, size: usize) -> Refusal
+    ensures { λ r. ⌜ r ≡ writeRefusal (lentEdition (now (table .entry))) (content .number) (contentOf content) size ⌝ }
+{
+    let lent = shipped_tables::lent_edition(table);
+    check_under(lent.refusal, lent.edition, content, size)
 }

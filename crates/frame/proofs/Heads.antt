@@ -2,14 +2,16 @@
 use Prim.Native.Nat.{ℕ, _+_, _≤_, _<_}
 use native.Mathlib.Omega.{arith}
 use borrow.Author.Tests.{eq-eqb}
-use mathlib.Core.Path.{_≡_, refl, _∙_}
+use mathlib.Core.Path.{_≡_, refl, sym, _∙_}
 use mathlib.Core.List.{List, [], _∷_, _++_}
 use lib.ListN.{length, getD, take, drop, length-take, length-drop, length-append}
 use lib.Seq.{drop-cons, take-at, drop-at}
-use Rattle.ground.specs.Lists.{agree}
+use mathlib.Core.Bool.{true}
+use Rattle.ground.specs.Lists.{agree, sameList}
 use Rattle.card.specs.Layout.{identifier, head}
 use Rattle.card.specs.Frame.{freeOf, headEnd}
-use Rattle.ground.proofs.Runs.{agree-cut, agree-own, run-passes}
+use Rattle.ground.proofs.Lists.{agree-self, same-equal}
+use Rattle.ground.proofs.Runs.{agree-cut, agree-own, run-passes, part-passes}
 
 -- the fixed bytes, and what follows each part of them
 abbrev pub chip : List ℕ
@@ -41,6 +43,10 @@ unfolding agree
 first-right [] ys h = absurd (omega arith)
 first-right (x ∷ s) ys h = rw (eq-eqb x x refl) (omega arith)
 
+-- two parts that are the same agree to the end
+agree-whole : (part want : List ℕ) → sameList part want ≡ true → agree want part ≡ length want
+agree-whole part want e = rw (same-equal part want e) (agree-self want)
+
 module _ (s : List ℕ) (long : 30 ≤ length s) where
   free-long : length (free s) ≡ 11
   free-long = simp (length-take, length-drop) (omega arith)
@@ -64,3 +70,16 @@ module _ (s : List ℕ) (long : 30 ≤ length s) where
   pub over-last : 29 + agree (last s) (drop 29 s) ≡ 30
   unfolding agree
   over-last = rw (drop-cons s 29 0 long, eq-eqb (getD s 29 0) (getD s 29 0) refl)
+
+  -- each part is as it must be
+  pub all-right : sameList (take 5 (drop 1 s)) chip ≡ true → sameList (take 4 (drop 17 s)) application ≡ true
+      → sameList (take 6 (drop 21 s)) identifier ≡ true → sameList (take 2 (drop 27 s)) body ≡ true → headEnd s ≡ 30
+  unfolding identifier
+  all-right a b c d =
+      from-chip
+      ∙ part-passes s 1 5 chip (behindChip s) (sym (agree-whole _ _ a)) (omega arith) (omega arith)
+      ∙ over-free
+      ∙ part-passes s 17 4 application (behindApplication s) (sym (agree-whole _ _ b)) (omega arith) (omega arith)
+      ∙ part-passes s 21 6 identifier (behindIdentifier s) (sym (agree-whole _ _ c)) (omega arith) (omega arith)
+      ∙ part-passes s 27 2 body (last s) (sym (agree-whole _ _ d)) (omega arith) (omega arith)
+      ∙ over-last

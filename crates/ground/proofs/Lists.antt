@@ -213,3 +213,6 @@ same-equal (x ∷ xs) (y ∷ ys) e =
     let h = eqb-true x y (and-left (eqb x y) (sameList xs ys) e) in
     let t = same-equal xs ys (and-right (eqb x y) (sameList xs ys) e) in
     cc
+
+pub same-self : (xs : List ℕ) → sameList xs xs ≡ true
+same-self xs = same-agree xs xs refl ∙ eq-eqb _ _ (agree-self xs)

@@ -10,9 +10,9 @@ use mathlib.Core.List.{List, [], _∷_, _++_}
 use lib.Bits.{bitOr, bitXor, or-add-and, xor-add-and, and-le-l, and-le-r, xor-self}
 use lib.Dec.{eqb}
 use lib.ListN.{length, getD, take, drop, replicate, length-replicate, getD-replicate, length-drop}
-use lib.Seq.{drop-drop, take-all}
-use Rattle.ground.specs.Lists.{agree}
-use Rattle.ground.proofs.Lists.{agree-pass, agree-stop, agree-end, agree-same}
+use lib.Seq.{drop-drop, take-all, ext-getD}
+use Rattle.ground.specs.Lists.{agree, sameList}
+use Rattle.ground.proofs.Lists.{true-false, agree-pass, agree-stop, agree-end, agree-same, same-self, same-equal}
 
 -- what lies behind the length of the first list is not looked at
 pub agree-cut : (n : ℕ) (xs zs : List ℕ) → length xs ≤ n → agree xs (take n zs) ≡ agree xs zs
@@ -109,7 +109,7 @@ agree-none (suc k) b (z ∷ zs) d = rw (ne-eqb b z (λ e. d (sym e)))
 pub part-to-end : (n : ℕ) (s : List ℕ) → take (length s - n) (drop n s) ≡ drop n s
 part-to-end n s = take-all (length s - n) (drop n s) (simp length-drop (omega arith))
 
--- ---- a run, by the bits in which some byte differs
+-- ---- bytes compared by the bits in which some of them differ
 or-none : (a c : ℕ) → bitOr a c ≡ 0 → (a ≡ 0) × (c ≡ 0)
 or-none a c e =
     let s = or-add-and a c in
@@ -124,26 +124,27 @@ xor-none a c e =
     let r = and-le-r a c in
     omega arith
 
--- the first i bytes are b
-abbrev pub AllAre : List ℕ → ℕ → ℕ → Type 0
-AllAre part b i = (k : ℕ) → k < i → getD part k 0 ≡ b
+-- the first i bytes are those wanted
+abbrev pub AllAre : List ℕ → (ℕ → ℕ) → ℕ → Type 0
+AllAre part want i = (k : ℕ) → k < i → getD part k 0 ≡ want k
 
--- no bit differs so far exactly where all bytes so far are b
-pub record Differs (part : List ℕ) (b difference i : ℕ) : Type 0 where
-  pub none : difference ≡ 0 → AllAre part b i
-  pub some : AllAre part b i → difference ≡ 0
+-- no bit differs so far exactly where all bytes so far are those wanted
+pub record Differs (part : List ℕ) (want : ℕ → ℕ) (difference i : ℕ) : Type 0 where
+  pub none : difference ≡ 0 → AllAre part want i
+  pub some : AllAre part want i → difference ≡ 0
 
-pub differs-start : (part : List ℕ) (b : ℕ) → Differs part b 0 0
-differs-start part b = record { none = λ e k h. absurd (omega arith); some = λ a. refl }
+pub differs-start : (part : List ℕ) (want : ℕ → ℕ) → Differs part want 0 0
+differs-start part want = record { none = λ e k h. absurd (omega arith); some = λ a. refl }
 
-pub differs-next : (part : List ℕ) (b d i : ℕ) → Differs part b d i → Differs part b (bitOr d (bitXor (getD part i 0) b)) (i + 1)
-differs-next part b d i w = record {
-  none = λ e. let z = or-none d (bitXor (getD part i 0) b) e in below-more (λ (k : ℕ). getD part k 0 ≡ b) i (w .none (z .0)) (xor-none (getD part i 0) b (z .1));
-  some = λ a. rw (w .some (λ k h. a k (omega arith)), a i (omega arith), xor-self b);
+pub differs-next : (part : List ℕ) (want : ℕ → ℕ) (d i : ℕ) → Differs part want d i → Differs part want (bitOr d (bitXor (getD part i 0) (want i))) (i + 1)
+differs-next part want d i w = record {
+  none = λ e. let z = or-none d (bitXor (getD part i 0) (want i)) e in below-more (λ (k : ℕ). getD part k 0 ≡ want k) i (w .none (z .0)) (xor-none (getD part i 0) (want i) (z .1));
+  some = λ a. rw (w .some (λ k h. a k (omega arith)), a i (omega arith), xor-self (want i));
 }
 
-pub differs-end : (part : List ℕ) (b d : ℕ) → Differs part b d (length part) → eqb d 0 ≡ eqb (agree (replicate (length part) b) part) (length part)
-differs-end part b d w = go (eqb d 0) refl
+-- .. of a run of b
+pub differs-run : (part : List ℕ) (b d : ℕ) → Differs part (λ (k : ℕ). b) d (length part) → eqb d 0 ≡ eqb (agree (replicate (length part) b) part) (length part)
+differs-run part b d w = go (eqb d 0) refl
   where
     go : (q : Bool) → eqb d 0 ≡ q → q ≡ eqb (agree (replicate (length part) b) part) (length part)
     go true e = sym (eq-eqb _ _ (agree-all (length part) b part (omega arith) (w .none (eqb-true d 0 e))))
@@ -151,3 +152,13 @@ differs-end part b d w = go (eqb d 0) refl
         let l = length-replicate (length part) b in
         let is : replicate (length part) b ≡ part = agree-same (replicate (length part) b) part l (same ∙ sym l) in
         ap (λ (x : List ℕ). getD x k 0) (sym is) ∙ getD-replicate (length part) k b 0 h))))
+
+-- .. of another part
+pub differs-part : (part other : List ℕ) (d : ℕ) → length part ≡ length other → Differs part (λ (k : ℕ). getD other k 0) d (length other) → eqb d 0 ≡ sameList part other
+differs-part part other d n w = go (eqb d 0) refl (sameList part other) refl
+  where
+    go : (q : Bool) → eqb d 0 ≡ q → (r : Bool) → sameList part other ≡ r → q ≡ r
+    go true e true f = refl
+    go false e false f = refl
+    go true e false f = absurd (true-false (same-self other) (rw (ext-getD 0 part other n (λ k h. w .none (eqb-true d 0 e) k (omega arith))) at f))
+    go false e true f = absurd (eqb-false d 0 e (w .some (λ k h. ap (λ (x : List ℕ). getD x k 0) (same-equal part other f))))

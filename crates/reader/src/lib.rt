@@ -1,5 +1,5 @@
 // The reader: where the values of an image stand, or its refusal; then the record copied from those places.
-// Both calls are total and promise one answer for any bytes and any edition; neither keeps anything.
+// The calls are total and promise one answer for any bytes and any edition, handed over or lent as a table; none keeps anything.
 // The refusals are a chain, told in the document's order whatever is found first.
 mod record;
 mod tail;
@@ -13,8 +13,11 @@ use record::copy_record;
 use tail::check_behind;
 ghost use Rattle.frame.specs.Checks.{Framed};
 ghost use mathlib.Core.Path.{_≡_};
+ghost use Rattle.edition.specs.Rows.{formedOf};
 ghost use Rattle.card.specs.Places.{places as placesIn};
 ghost use Rattle.card.specs.Reading.{reading};
+ghost use Rattle.card.specs.Refusals.{badRow};
+ghost use Rattle.wire_tables.specs.Tables.{lentEdition};
 ghost use Rattle.reader.specs.Steps.{settled};
 
 // The table as it is, unless something behind the objects is refused.
@@ -35,11 +38,12 @@ fn settle(image: &[u8], end: usize, table: Places) -> Places
     table
 }
 
-// Where the values of an image stand, or its refusal.
-pub fn places(edition: Edition, image: &[u8]) -> Places
+// The same as places, under an edition whose refusal is known.
+fn places_under(known: Refusal, edition: Edition, image: &[u8]) -> Places
+    requires { ⌜ known ≡ badRow (formedOf edition) ⌝ }
     ensures { λ r. ⌜ r ≡ placesIn edition (now (image .entry)) ⌝ }
 {
-    let front = frame::check_front(image, card::refuse_edition(edition));
+    let front = frame::check_front(image, known);
     let refusal = front.refusal;
     if refusal.number != 0 {
         return Places::refused(refusal);
@@ -51,11 +55,12 @@ pub fn places(edition: Edition, image: &[u8]) -> Places
     settle(image, end, table)
 }
 
-// Reads an image: its record with the edition's number, or the refusal and the empty record.
-pub fn read(edition: Edition, image: &[u8]) -> Reading
+// The same as read, under an edition whose refusal is known.
+fn read_under(known: Refusal, edition: Edition, image: &[u8]) -> Reading
+    requires { ⌜ known ≡ badRow (formedOf edition) ⌝ }
     ensures { λ r. ⌜ r ≡ reading edition (now (image .entry)) ⌝ }
 {
-    let table = places(edition, image);
+    let table = places_under(known, edition, image);
     let refusal = table.refusal;
     if refusal.number != 0 {
         return Reading {
@@ -69,4 +74,34 @@ pub fn read(edition: Edition, image: &[u8]) -> Reading
         refusal: Refusal::none(),
         content: copy_record(image, starts, lengths, edition.number),
     }
+}
+
+// Where the values of an image stand, or its refusal.
+pub fn places(edition: Edition, image: &[u8]) -> Places
+    ensures { λ r. ⌜ r ≡ placesIn edition (now (image .entry)) ⌝ }
+{
+    places_under(card::refuse_edition(edition), edition, image)
+}
+
+// Reads an image: its record with the edition's number, or the refusal and the empty record.
+pub fn read(edition: Edition, image: &[u8]) -> Reading
+    ensures { λ r. ⌜ r ≡ reading edition (now (image .entry)) ⌝ }
+{
+    read_under(card::refuse_edition(edition), edition, image)
+}
+
+// The same as places, under the edition of a lent table.
+pub fn places_lent(table: &[u8], image: &[u8]) -> Places
+    ensures { λ r. ⌜ r ≡ placesIn (lentEdition (now (table .entry))) (now (image .entry)) ⌝ }
+{
+    let lent = shipped_tables::lent_edition(table);
+    places_under(lent.refusal, lent.edition, image)
+}
+
+// The same as read, under the edition of a lent table.
+pub fn read_lent(table: &[u8], image: &[u8]) -> Reading
+    ensures { λ r. ⌜ r ≡ reading (lentEdition (now (table .entry))) (now (image .entry)) ⌝ }
+{
+    let lent = shipped_tables::lent_edition(table);
+    read_under(lent.refusal, lent.edition, image)
 }

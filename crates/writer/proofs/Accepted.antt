@@ -1,11 +1,11 @@
 -- What a record has that no check refuses, and what the buffer then holds. Assumes nothing.
-use mathlib.Core.Path.{_≡_, refl, ap}
+use mathlib.Core.Path.{_≡_, refl, sym, ap, _∙_}
 use mathlib.Core.Bool.{Bool, true, false, cond, _&&_}
 use mathlib.Core.List.{List, [], _∷_, map}
 use Prim.Native.Nat.{ℕ, zero, suc, _≤_, _<_, _^_}
 use native.Mathlib.Nat.{le-of-suc-le-suc}
 use native.Mathlib.Omega.{arith}
-use borrow.Author.Tests.{eq-eqb, ne-eqb, eqb-true, eqb-false, leb-true}
+use borrow.Author.Tests.{eqb-true, eqb-false, leb-true}
 use lib.Dec.{eqb, leb}
 use lib.ListN.{length, getD}
 use Rattle.edition.specs.declared.Row.{Row}
@@ -29,6 +29,8 @@ use Rattle.card.specs.Content.{noObject}
 use Rattle.writer.specs.Storing.{Storable}
 use Rattle.checks.proofs.Items.{claim-short}
 use Rattle.card.proofs.Chains.{neither, table-well}
+use Rattle.ground.specs.Pieces.{pieces}
+use Rattle.wire_tables.specs.Tables.{editionFrom, noEdition, lentEdition}
 use Rattle.checks.proofs.Order.{refused-size, content-order, in-order}
 
 -- ---- where no row refuses, no object claims more than 28 bytes
@@ -93,11 +95,22 @@ accepted e r n hr ho z =
       };
     }
 
--- ---- the buffer
-pub kept : (e : Edition) (r : Record) (b : List ℕ) → (recordRefusal e r b .number ≡ 0 → ⊥) → b ≡ bufferAfter e r b
-unfolding bufferAfter
-kept e r b h = rw (ne-eqb (recordRefusal e r b .number) 0 h)
+-- ---- a record beside its refusal: it has its room where nothing is refused, and what the buffer then holds
+module _ (e : Edition) (r : Record) (b : List ℕ) (x : Refusal) (is : x ≡ recordRefusal e r b) where
+  pub has-room : length (e .rows) ≡ 17 → length (r .objects) ≡ 16 → x .number ≡ 0 → Storable r × (length b ≡ 256)
+  has-room hr ho z =
+      let k = accepted e r (length b) hr ho (ap (λ (y : Refusal). y .number) (sym is) ∙ z) in
+      (k .storable, k .sized)
 
-pub written : (e : Edition) (r : Record) (b : List ℕ) → recordRefusal e r b .number ≡ 0 → layout (contentOf r) ≡ bufferAfter e r b
-unfolding bufferAfter
-written e r b h = rw (eq-eqb (recordRefusal e r b .number) 0 h)
+  pub left : {after : List ℕ} → after ≡ cond (eqb (x .number) 0) (layout (contentOf r)) b → after ≡ bufferAfter e r b
+  unfolding bufferAfter
+  left h = rw is at h
+
+-- whatever is lent as a table, its edition has seventeen rows
+pub lent-rows : (bs : List ℕ) → length (lentEdition bs .rows) ≡ 17
+unfolding lentEdition editionFrom pieces
+lent-rows bs = go (eqb (length bs) 103)
+  where
+    go : (q : Bool) → length (cond q (editionFrom bs) noEdition .rows) ≡ 17
+    go true = refl
+    go false = refl

@@ -24,17 +24,15 @@ returns-2 : tie.Need-returns-2
 unfolding gate tableReading
 returns-2 c = rw (eq-eqb _ _ (c .before .before .if1 .left), ne-eqb _ _ (c .before .if2 .taken)) (c .refused-reading2 .ensures)
 
-edition-of-requires : tie.Need-edition-of-requires
-edition-of-requires c κs = search needs
-
-read-requires : tie.Need-read-requires
-read-requires c κs = search needs
+read-lent-requires : tie.Need-read-lent-requires
+read-lent-requires c κs = search needs
 
 returns-3 : tie.Need-returns-3
 unfolding gate tableReading
 returns-3 c =
-    rw (eq-eqb _ _ (c .before .before .before .if1 .left), eq-eqb _ _ (c .before .before .if2 .left))
-    (c .read .ensures ∙ ap (λ (e : Edition). reading e (c .before .before .before .before .before .before .args .image .now)) (c .before .edition-of .ensures ∙ lent-edition _ (c .before .before .if2 .left)))
+    let size = c .before .if2 .left in
+    rw (eq-eqb _ _ (c .before .before .if1 .left), eq-eqb _ _ size)
+    (c .read-lent .ensures ∙ ap (λ (e : Edition). reading e (c .before .before .before .before .before .args .image .now)) (lent-edition _ size))
 
 pub reading-of-spec : {M : Type 1} → statement M
 reading-of-spec =
@@ -44,6 +42,5 @@ reading-of-spec =
     returns
     refused-reading-requires-2
     returns-2
-    edition-of-requires
-    read-requires
+    read-lent-requires
     returns-3)

@@ -33,14 +33,11 @@ returns-3 c =
     rw (eq-eqb _ _ (c .before .before .before .if1 .left), eq-eqb _ _ (c .before .before .if2 .left), ne-eqb _ _ (c .before .if3 .taken))
     (c .new3 .ensures, refl)
 
-edition-of-requires : tie.Need-edition-of-requires
-edition-of-requires c κs = search needs
-
 record-of-requires : tie.Need-record-of-requires
 record-of-requires c κs = search needs
 
-write-requires : tie.Need-write-requires
-write-requires c κs = search needs
+write-lent-requires : tie.Need-write-lent-requires
+write-lent-requires c κs = search needs
 
 same-length : tie.Need-same-length
 same-length c = search needs
@@ -50,9 +47,9 @@ unfolding gate kvkWrite kvkWriteImage bufferAfter
 returns-4 c =
     let w = c .before .before in
     let r = w .before .before in
-    let tests = r .before .before in
+    let tests = r .before in
     rw (eq-eqb _ _ (tests .before .before .if1 .left), eq-eqb _ _ (tests .before .if2 .left), eq-eqb _ _ (tests .if3 .left))
-    (rw (r .before .edition-of .ensures, lent-edition _ (tests .if3 .left), r .record-of .ensures, lent-record _ (tests .before .before .if1 .left)) at (w .write .ensures))
+    (rw (lent-edition _ (tests .if3 .left), r .record-of .ensures, lent-record _ (tests .before .before .if1 .left)) at (w .write-lent .ensures))
 
 pub written-spec : {M : Type 1} → statement M
 written-spec =
@@ -64,8 +61,7 @@ written-spec =
     returns-2
     new-requires-3
     returns-3
-    edition-of-requires
     record-of-requires
-    write-requires
+    write-lent-requires
     same-length
     returns-4)

@@ -1,69 +1,16 @@
--- `checks::check` meets its contract: the size, the edition, the number, then the content. Assumes nothing.
-use mathlib.Core.Path.{_≡_, sym, ap, ap₂, _∙_}
-use Rattle.edition.specs.Rows.{formedOf}
-use Rattle.card.specs.declared.Refusal.{Refusal}
-use Rattle.card.specs.Content.{contentOf}
-use Rattle.card.specs.Refusals.{orElse}
-use Rattle.card.specs.Refusing.{numberRefusal, contentRefusal, writeRefusal}
-use Rattle.card.proofs.Chains.{or-pass, or-stop, table-well}
-use Rattle.checks.proofs.Order.{refused-size, in-order}
+-- `checks::check` meets its contract: the refusal that is handed on is the edition's. Assumes nothing.
 use borrow.Author.Needs.{needs}
 use Rattle.checks.proofs.check.Statement.{statement}
 use Rattle.checks.proofs.check.Tie as tie
 
-new-requires : tie.Need-new-requires
-new-requires c κs = search needs
-
-returns : tie.Need-returns
-returns c =
-    let a = c .before .before .args in
-    c .new .ensures ∙ sym (refused-size (a .edition) (a .content .number) (contentOf (a .content)) (a .size) (c .before .if1 .taken))
-
 refuse-edition-requires : tie.Need-refuse-edition-requires
 refuse-edition-requires c κs = search needs
 
--- the chain behind the size, with the edition's own refusal
-chained : (t : tie.After-refuse-edition)
-    → writeRefusal (t .before .before .args .edition) (t .before .before .args .content .number) (contentOf (t .before .before .args .content)) (t .before .before .args .size)
-    ≡ orElse (t .refuse-edition .result)
-    (orElse (numberRefusal (t .before .before .args .edition .number) (t .before .before .args .content .number))
-    (contentRefusal (t .before .before .args .edition) (contentOf (t .before .before .args .content))))
-chained t =
-    let a = t .before .before .args in
-    in-order (a .edition) (a .content .number) (contentOf (a .content)) (a .size) (t .before .if1 .left) (t .refuse-edition .ensures)
+check-under-requires : tie.Need-check-under-requires
+check-under-requires c κs = search needs
 
-returns-2 : tie.Need-returns-2
-returns-2 c = sym (chained (c .before .before) ∙ or-stop _ _ (c .if2 .taken))
-
-check-numbers-requires : tie.Need-check-numbers-requires
-check-numbers-requires c κs = search needs
-
-refuse-content-requires : tie.Need-refuse-content-requires
-refuse-content-requires c κs =
-    let l = c .before in
-    let t = l .before .before in
-    table-well (formedOf (t .before .before .args .edition)) (ap (λ (r : Refusal). r .number) (sym (t .refuse-edition .ensures)) ∙ l .if2 .left)
-
-first-of-requires : tie.Need-first-of-requires
-first-of-requires c κs = search needs
-
-returns-3 : tie.Need-returns-3
-returns-3 c =
-    let r = c .before in
-    let n = r .before in
-    let l = n .before in
-    c .first-of .ensures ∙ ap₂ orElse (n .check-numbers .ensures) (r .refuse-content .ensures)
-    ∙ sym (chained (l .before .before) ∙ or-pass _ _ (l .if2 .left))
+returns : tie.Need-returns
+returns c = search needs
 
 pub check-spec : {M : Type 1} → statement M
-check-spec =
-    tie.close
-    (tie.spec
-    new-requires
-    returns
-    refuse-edition-requires
-    returns-2
-    check-numbers-requires
-    refuse-content-requires
-    first-of-requires
-    returns-3)
+check-spec = tie.close (tie.spec refuse-edition-requires check-under-requires returns)

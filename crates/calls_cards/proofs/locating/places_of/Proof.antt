@@ -32,19 +32,16 @@ unfolding gate tablePlaces
 returns-2 c =
     rw (eq-eqb _ _ (c .before .before .before .if1 .left), ne-eqb _ 103 (c .before .before .if2 .taken)) (c .refused2 .ensures ∙ ap noPlaces (c .before .new2 .ensures))
 
-edition-of-requires : tie.Need-edition-of-requires
-edition-of-requires c κs = search needs
-
-places-requires : tie.Need-places-requires
-places-requires c κs = search needs
+places-lent-requires : tie.Need-places-lent-requires
+places-lent-requires c κs = search needs
 
 returns-3 : tie.Need-returns-3
 unfolding gate tablePlaces
 returns-3 c =
-    let t = c .before .before in
+    let t = c .before in
     let image = t .before .before .before .before .args .image .now in
     rw (eq-eqb _ _ (t .before .if1 .left), eq-eqb _ _ (t .if2 .left))
-    (c .places .ensures ∙ ap (λ (e : Edition). places e image) (c .before .edition-of .ensures ∙ lent-edition _ (t .if2 .left)))
+    (c .places-lent .ensures ∙ ap (λ (e : Edition). places e image) (lent-edition _ (t .if2 .left)))
 
 pub places-of-spec : {M : Type 1} → statement M
 places-of-spec =
@@ -56,6 +53,5 @@ places-of-spec =
     new-requires-2
     refused-requires-2
     returns-2
-    edition-of-requires
-    places-requires
+    places-lent-requires
     returns-3)

@@ -1,14 +1,14 @@
 -- `frame::tail::is_run` meets its contract: no bit differs exactly where all bytes are b. Assumes nothing.
 use mathlib.Core.Path.{_≡_}
-use Prim.Native.Nat.{_-_, _≤_}
+use Prim.Native.Nat.{ℕ, _-_, _≤_}
 use native.Mathlib.Omega.{arith}
 use lib.ListN.{length}
-use Rattle.ground.proofs.Runs.{Differs, differs-start, differs-next, differs-end}
+use Rattle.ground.proofs.Runs.{Differs, differs-start, differs-next, differs-run}
 use Rattle.frame.proofs.tail.is_run.Statement.{statement}
 use Rattle.frame.proofs.tail.is_run.Tie as tie
 
 abbrev Inv-loop : tie.InvT-loop
-Inv-loop part b difference₀ i₀ difference i = (i ≤ length part) × Differs part b difference i
+Inv-loop part b difference₀ i₀ difference i = (i ≤ length part) × Differs part (λ (k : ℕ). b) difference i
 
 abbrev μ-loop : tie.MeasureT-loop
 μ-loop part b difference₀ i₀ difference i = length part - i
@@ -29,14 +29,14 @@ loop-again : tie.Need-loop-again Inv-loop μ-loop
 loop-again c =
     let l = c .before .before .loop in
     let a = c .before .before .before .args in
-    (omega arith, differs-next (a .part .now) (a .b) (l .difference) (l .i) (l .inv .1))
+    (omega arith, differs-next (a .part .now) (λ (k : ℕ). a .b) (l .difference) (l .i) (l .inv .1))
 
 returns : tie.Need-returns Inv-loop μ-loop
 returns c =
     let l = c .before .loop in
     let a = c .before .before .args in
     let e : l .i ≡ length (a .part .now) = omega arith in
-    differs-end (a .part .now) (a .b) (l .difference) (rw e at (l .inv .1))
+    differs-run (a .part .now) (a .b) (l .difference) (rw e at (l .inv .1))
 
 pub is-run-spec : {M : Type 1} → statement M
 is-run-spec =

@@ -1,10 +1,6 @@
--- `ground::parts::is_same` meets its contract: lists of one length that agree throughout are the same. Assumes nothing.
-use mathlib.Core.Path.{sym, ap, _∙_}
-use Prim.Native.Nat.{ℕ}
-use lib.Dec.{eqb}
-use lib.ListN.{length}
-use denote.Ref.{now}
-use Rattle.ground.proofs.Lists.{same-other, same-agree}
+-- `ground::parts::is_same` meets its contract: lists of different lengths are not the same; of one length, by the contract of `is_equal`. Assumes nothing.
+use mathlib.Core.Path.{sym}
+use Rattle.ground.proofs.Lists.{same-other}
 use borrow.Author.Needs.{needs}
 use Rattle.ground.proofs.parts.is_same.Statement.{statement}
 use Rattle.ground.proofs.parts.is_same.Tie as tie
@@ -12,13 +8,11 @@ use Rattle.ground.proofs.parts.is_same.Tie as tie
 returns : tie.Need-returns
 returns c = sym (same-other _ _ (c .if1 .taken))
 
-count-same-requires : tie.Need-count-same-requires
-count-same-requires c κs = search needs
+is-equal-requires : tie.Need-is-equal-requires
+is-equal-requires c κs = search needs
 
 returns-2 : tie.Need-returns-2
-returns-2 c =
-    let a = c .before .before .before .before .args in
-    ap (λ (n : ℕ). eqb n (length (now (a .want)))) (c .count-same .ensures) ∙ sym (same-agree (now (a .part)) (now (a .want)) (c .before .if1 .left))
+returns-2 c = search needs
 
 pub is-same-spec : {M : Type 1} → statement M
-is-same-spec = tie.close (tie.spec returns count-same-requires returns-2)
+is-same-spec = tie.close (tie.spec returns is-equal-requires returns-2)

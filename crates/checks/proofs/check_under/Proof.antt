@@ -1,0 +1,65 @@
+-- `checks::check_under` meets its contract: the size, the edition, the number, then the content. Assumes nothing.
+use mathlib.Core.Path.{_≡_, sym, ap, ap₂, _∙_}
+use Rattle.edition.specs.Rows.{formedOf}
+use Rattle.card.specs.declared.Refusal.{Refusal}
+use Rattle.card.specs.Content.{contentOf}
+use Rattle.card.specs.Refusals.{orElse}
+use Rattle.card.specs.Refusing.{numberRefusal, contentRefusal, writeRefusal}
+use Rattle.card.proofs.Chains.{or-pass, or-stop, table-well}
+use Rattle.checks.proofs.Order.{refused-size, in-order}
+use borrow.Author.Needs.{needs}
+use Rattle.checks.proofs.check_under.Statement.{statement}
+use Rattle.checks.proofs.check_under.Tie as tie
+
+new-requires : tie.Need-new-requires
+new-requires c κs = search needs
+
+returns : tie.Need-returns
+returns c =
+    let a = c .before .before .args in
+    c .new .ensures ∙ sym (refused-size (a .edition) (a .content .number) (contentOf (a .content)) (a .size) (c .before .if1 .taken))
+
+-- the chain behind the size, with the edition's own refusal
+chained : (t : tie.Else1)
+    → writeRefusal (t .before .args .edition) (t .before .args .content .number) (contentOf (t .before .args .content)) (t .before .args .size)
+    ≡ orElse (t .before .args .known)
+    (orElse (numberRefusal (t .before .args .edition .number) (t .before .args .content .number))
+    (contentRefusal (t .before .args .edition) (contentOf (t .before .args .content))))
+chained t =
+    let a = t .before .args in
+    in-order (a .edition) (a .content .number) (contentOf (a .content)) (a .size) (t .if1 .left) (t .before .pre)
+
+returns-2 : tie.Need-returns-2
+returns-2 c = sym (chained (c .before .before) ∙ or-stop _ _ (c .if2 .taken))
+
+check-numbers-requires : tie.Need-check-numbers-requires
+check-numbers-requires c κs = search needs
+
+refuse-content-requires : tie.Need-refuse-content-requires
+refuse-content-requires c κs =
+    let l = c .before in
+    let s = l .before .before .before in
+    table-well (formedOf (s .args .edition)) (ap (λ (r : Refusal). r .number) (sym (s .pre)) ∙ l .if2 .left)
+
+first-of-requires : tie.Need-first-of-requires
+first-of-requires c κs = search needs
+
+returns-3 : tie.Need-returns-3
+returns-3 c =
+    let r = c .before in
+    let n = r .before in
+    let l = n .before in
+    c .first-of .ensures ∙ ap₂ orElse (n .check-numbers .ensures) (r .refuse-content .ensures)
+    ∙ sym (chained (l .before .before) ∙ or-pass _ _ (l .if2 .left))
+
+pub check-under-spec : {M : Type 1} → statement M
+check-under-spec =
+    tie.close
+    (tie.spec
+    new-requires
+    returns
+    returns-2
+    check-numbers-requires
+    refuse-content-requires
+    first-of-requires
+    returns-3)

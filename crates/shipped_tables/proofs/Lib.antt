@@ -1,0 +1,2 @@
+-- The law of a shipped table.
+pub mod Owns

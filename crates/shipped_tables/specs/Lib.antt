@@ -1,0 +1,2 @@
+-- What a lent table says.
+pub mod Lending
