@@ -10,7 +10,8 @@ pub use lengths::shortest;
 use rules::Rule;
 pub use tags::tag_of;
 ghost use mathlib.Core.Path.{_≡_};
-ghost use Rattle.edition.specs.Rows.{byRule, rowFormed, formedOf, formedTold};
+ghost use mathlib.Core.Bool.{true, false};
+ghost use Rattle.edition.specs.Rows.{setFormed, byRule, rowFormed, formedOf, formedTold};
 ghost use Rattle.edition.specs.Tables.{terminal, issue};
 
 // The bit n of lengths is set where the length n is permitted.
@@ -232,12 +233,16 @@ impl Edition {
         ensures { λ r. ⌜ formedTold r ≡ formedTold (formedOf self) ⌝ }
     {
         let mut i: usize = 0;
-        while i < 17 {
+        while i < 16 {
             let row = self.rows[i];
-            if !row_formed(row, i == 16) {
+            if !object_formed(row) {
                 return Formed::Bad(i);
             }
             i += 1;
+        }
+        let last = self.rows[16];
+        if !last_formed(last) {
+            return Formed::Bad(16);
         }
         if self.number == 0 {
             return Formed::Unnumbered;
@@ -262,19 +267,42 @@ fn by_rule(rule: Rule, plain: bool, birth: bool, expiry: bool, raw: bool) -> boo
     }
 }
 
-// Whether a row is well formed; last says that it is the row of the checksum.
-fn row_formed(row: Row, last: bool) -> bool
-    ensures { λ r. ⌜ r ≡ rowFormed last row ⌝ }
+// Whether a set is not empty and within 1 to 28.
+fn set_formed(lengths: u32) -> bool
+    ensures { λ r. ⌜ r ≡ setFormed lengths ⌝ }
+{
+    (0 < lengths) & (lengths % 2 == 0) & (lengths < 1 << 29)
+}
+
+// Whether a rule asks for no set of its own.
+fn is_plain(rule: Rule) -> bool
+    ensures { λ r. ⌜ r ≡ byRule rule true false false false ⌝ }
+{
+    by_rule(rule, true, false, false, false)
+}
+
+// Whether the row of an object is well formed.
+fn object_formed(row: Row) -> bool
+    ensures { λ r. ⌜ r ≡ rowFormed false row ⌝ }
 {
     let lengths = row.lengths;
     let rule = row.rule;
-    let within = (0 < lengths) & (lengths % 2 == 0) & (lengths < 1 << 29);
-    within
-        & by_rule(
-            rule,
-            !last,
-            !last & (lengths == 1 << 8),
-            !last & (lengths == 1 << 4),
-            last & row.required & (lengths == 1 << 1),
-        )
+    if is_plain(rule) {
+        return set_formed(lengths);
+    }
+    by_rule(rule, false, lengths == 1 << 8, lengths == 1 << 4, false)
+}
+
+// Whether the row of the checksum is well formed.
+fn last_formed(row: Row) -> bool
+    ensures { λ r. ⌜ r ≡ rowFormed true row ⌝ }
+{
+    let rule = row.rule;
+    by_rule(
+        rule,
+        false,
+        false,
+        false,
+        row.required & (row.lengths == 1 << 1),
+    )
 }
