@@ -1,2 +1,3 @@
 -- The laws of the definitions.
 pub mod Verdicts
+pub mod Tables

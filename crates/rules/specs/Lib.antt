@@ -1,3 +1,4 @@
 -- The definitions that the contracts of `rules` cite.
 pub mod Values
 pub mod Characters
+pub mod Kinds

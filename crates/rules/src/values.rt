@@ -148,13 +148,13 @@ fn by_sense(rule: Rule, lead: bool, code: bool, birth: bool, expiry: bool, other
 }
 
 // Whether a rule asks for nothing beyond its characters.
-fn is_plain(rule: Rule) -> bool
+pub(crate) fn is_plain(rule: Rule) -> bool
     ensures { λ r. ⌜ r ≡ bySense rule false false false false false ⌝ }
 {
     by_sense(rule, false, false, false, false, false)
 }
 
-fn holds_for(rule: Rule, v: &[u8]) -> bool
+pub(crate) fn holds_for(rule: Rule, v: &[u8]) -> bool
     ensures { λ r. ⌜ r ≡ holds rule (now (v .entry)) ⌝ }
 {
     let first = ground::byte_at(v, 0);
