@@ -49,7 +49,8 @@ fn refuse_content(edition: Edition, content: Record) -> Refusal
     if ends.number != 0 {
         return ends;
     }
-    let rows = rows::check_rows(edition, content);
+    let kinds = rules::kinds();
+    let rows = rows::check_rows(edition, content, &kinds);
     if rows.number != 0 {
         return rows;
     }

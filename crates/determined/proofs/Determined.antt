@@ -24,6 +24,8 @@ use Rattle.edition.proofs.permits.Reads as permits
 use Rattle.edition.proofs.shortest.Reads as shortest
 use Rattle.edition.proofs.longest.Reads as longest
 use Rattle.rules.proofs.judge.Reads as judge
+use Rattle.rules.proofs.kinds.Reads as kinds
+use Rattle.rules.proofs.judge_by.Reads as judge-by
 use Rattle.card.proofs.Record.empty.Reads as empty
 use Rattle.card.proofs.Refusal.new.Reads as new
 use Rattle.card.proofs.Refusal.of_length.Reads as of-length
@@ -171,6 +173,12 @@ formed-once κs a z y e f p q = Rows.told-apart z y (p ∙ sym q)
 
 pub judge-once : (κs : _) (a : _) (z y : _) (e f : _) → judge.Post κs a z e → judge.Post κs a y f → z ≡ y
 judge-once κs a z y e f p q = Verdicts.told-apart z y (p ∙ sym q)
+
+pub kinds-once : (κs : _) (a : _) (z y : _) (e f : _) → kinds.Post κs a z e → kinds.Post κs a y f → z ≡ y
+kinds-once κs a z y e f p q = p ∙ sym q
+
+pub judge-by-once : (κs : _) (a : _) (z y : _) (e f : _) → judge-by.Post κs a z e → judge-by.Post κs a y f → z ≡ y
+judge-by-once κs a z y e f p q = Verdicts.told-apart z y (p ∙ sym q)
 
 pub read-length-once : (κs : _) (a : _) (z y : _) (e f : _) → read-length.Post κs a z e → read-length.Post κs a y f → z ≡ y
 read-length-once κs a z y e f p q = Forms.told-apart z y (p ∙ sym q)

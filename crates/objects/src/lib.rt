@@ -16,7 +16,8 @@ pub fn list_objects(template: &[u8], rows: [Row; 17], from: usize) -> Places
     ensures { λ r. ⌜ r ≡ listed (now (template .entry)) rows from ⌝ }
 {
     if (from <= 33) & (template.len() <= 212) {
-        return list_rows(template, rows, from);
+        let kinds = rules::kinds();
+        return list_rows(template, rows, from, &kinds);
     }
     Places::refused(Refusal::new(1, 0, 0))
 }

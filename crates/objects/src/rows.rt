@@ -8,6 +8,7 @@ ghost use mathlib.Core.Path.{_≡_};
 ghost use mathlib.Core.List.{[], _∷_};
 ghost use Prim.Native.Nat.{_+_, _≤_};
 ghost use lib.ListN.{length};
+ghost use Rattle.rules.specs.Kinds.{kindTable};
 ghost use Rattle.edition.specs.Rows.{tags};
 ghost use Rattle.card.specs.Refusals.{none};
 ghost use Rattle.card.specs.Rules.{entries};
@@ -30,11 +31,11 @@ fn refuse_rest(left: usize, at: usize) -> Refusal
 }
 
 // What the last row, that of the checksum, and the bytes behind it are refused with.
-fn refuse_last(part: &[u8], at: usize, row: Row) -> Refusal
-    requires { ⌜ at + length (now part) ≤ 255 ⌝ }
+fn refuse_last(part: &[u8], at: usize, row: Row, kinds: &[u8]) -> Refusal
+    requires { ⌜ (at + length (now part) ≤ 255) × (now kinds ≡ kindTable) ⌝ }
     ensures { λ r. ⌜ r ≡ tableRefusal (at + length (now (part .entry))) (walk (entryAt 16 row ∷ []) at (now (part .entry))) ⌝ }
 {
-    match meet_row(part, at, 16, row) {
+    match meet_row(part, at, 16, row, kinds) {
         Met::Absent => refuse_rest(part.len(), at),
         Met::There { start, length } => refuse_rest(part.len() - (2 + length), start + length),
         Met::Wrong { refusal } => refusal,
@@ -56,8 +57,8 @@ fn close(refusal: Refusal, starts: [u8; 16], lengths: [u8; 16]) -> Places
 }
 
 // The rows of a template whose bytes begin at the address `from`: the sixteen objects, then the checksum.
-pub(crate) fn list_rows(template: &[u8], rows: [Row; 17], from: usize) -> Places
-    requires { ⌜ (from ≤ 33) × (length (now template) ≤ 212) ⌝ }
+pub(crate) fn list_rows(template: &[u8], rows: [Row; 17], from: usize, kinds: &[u8]) -> Places
+    requires { ⌜ (from ≤ 33) × (length (now template) ≤ 212) × (now kinds ≡ kindTable) ⌝ }
     ensures { λ r. ⌜ r ≡ tableOf from (from + length (now (template .entry))) (walk (entries tags rows) from (now (template .entry))) ⌝ }
 {
     let mut starts = [0u8; 16];
@@ -66,7 +67,7 @@ pub(crate) fn list_rows(template: &[u8], rows: [Row; 17], from: usize) -> Places
     let mut i: usize = 0;
     while k < 16 {
         let row = rows[k];
-        match meet_row(&template[i..], from + i, k, row) {
+        match meet_row(&template[i..], from + i, k, row, kinds) {
             Met::Absent => {
                 k += 1;
             }
@@ -82,6 +83,6 @@ pub(crate) fn list_rows(template: &[u8], rows: [Row; 17], from: usize) -> Places
         }
     }
     let last = rows[16];
-    let refusal = refuse_last(&template[i..], from + i, last);
+    let refusal = refuse_last(&template[i..], from + i, last, kinds);
     close(refusal, starts, lengths)
 }

@@ -7,6 +7,7 @@ ghost use Prim.Native.Nat.{suc, _+_, _<_, _≤_};
 ghost use lib.ListN.{length, drop};
 ghost use Rattle.ground.specs.Lists.{among};
 ghost use Rattle.rules.specs.Values.{verdictTold};
+ghost use Rattle.rules.specs.Kinds.{kindTable};
 ghost use Rattle.edition.specs.Rows.{tags};
 ghost use Rattle.card.specs.Walk.{objectAt, look};
 ghost use Rattle.objects.specs.Objects.{foundTold, entryAt, valued, foundOf, here, passedOver, withEnds, metOf};
@@ -90,8 +91,8 @@ fn weigh(k: usize, start: usize, n: usize, verdict: Verdict) -> Found
 }
 
 // Row k's object, whose tag stands at `at`; the part begins behind it.
-fn read_object(part: &[u8], at: usize, k: usize, row: Row) -> Found
-    requires { ⌜ at + length (now part) ≤ 255 ⌝ }
+fn read_object(part: &[u8], at: usize, k: usize, row: Row, kinds: &[u8]) -> Found
+    requires { ⌜ (at + length (now part) ≤ 255) × (now kinds ≡ kindTable) ⌝ }
     ensures { λ r. ⌜ foundTold r ≡ foundTold (foundOf k at (objectAt (entryAt k row) at (now (part .entry)))) ⌝ }
 {
     if part.len() == 0 {
@@ -118,7 +119,7 @@ fn read_object(part: &[u8], at: usize, k: usize, row: Row) -> Found
         };
     }
     let rule = row.rule;
-    let verdict = rules::judge(rule, &part[1..stop]);
+    let verdict = rules::judge_by(kinds, rule, &part[1..stop]);
     weigh(k, at + 2, n as usize, verdict)
 }
 
@@ -141,12 +142,12 @@ pub(crate) enum Met {
 }
 
 // What row k meets at `at`, where a part is left of the template.
-pub(crate) fn meet_row(part: &[u8], at: usize, k: usize, row: Row) -> Met
-    requires { ⌜ (at + length (now part) ≤ 255) × (k < 17) ⌝ }
+pub(crate) fn meet_row(part: &[u8], at: usize, k: usize, row: Row, kinds: &[u8]) -> Met
+    requires { ⌜ (at + length (now part) ≤ 255) × (k < 17) × (now kinds ≡ kindTable) ⌝ }
     ensures { λ r. ⌜ r ≡ metOf at (look (entryAt k row) (drop (suc k) tags) at (now (part .entry))) ⌝ }
 {
     if is_here(part, k) {
-        return match read_object(&part[1..], at, k, row) {
+        return match read_object(&part[1..], at, k, row, kinds) {
             Found::Object {
                 row: _,
                 start,

@@ -17,18 +17,24 @@ returns c =
     let a = e .before .args in
     sym (content-order (a .edition) (contentOf (a .content)) (e .check-ends .ensures) refl refl ∙ or-stop _ _ (c .if1 .taken))
 
+kinds-requires : tie.Need-kinds-requires
+kinds-requires c κs = search needs
+
+slice-aggregate-check-rows : tie.Need-slice-aggregate-check-rows
+slice-aggregate-check-rows c = search needs
+
 check-rows-requires : tie.Need-check-rows-requires
-check-rows-requires c κs = search needs
+check-rows-requires c κs = (c .before .before .before .before .before .pre, c .before .kinds .ensures)
 
 returns-2 : tie.Need-returns-2
 unfolding contentOf
 returns-2 c =
     let r = c .before .before in
-    let e = r .before .before .before in
+    let e = r .before .before .before .before .before in
     let a = e .before .args in
     sym
     (content-order (a .edition) (contentOf (a .content)) (e .check-ends .ensures) (r .check-rows .ensures) refl
-    ∙ or-pass _ _ (r .before .if1 .left) ∙ or-stop _ _ (c .if2 .taken))
+    ∙ or-pass _ _ (r .before .before .before .if1 .left) ∙ or-stop _ _ (c .if2 .taken))
 
 check-sizes-requires : tie.Need-check-sizes-requires
 check-sizes-requires c κs = search needs
@@ -37,11 +43,11 @@ returns-3 : tie.Need-returns-3
 unfolding contentOf
 returns-3 c =
     let r = c .before .before .before in
-    let e = r .before .before .before in
+    let e = r .before .before .before .before .before in
     let a = e .before .args in
     sym
     (content-order (a .edition) (contentOf (a .content)) (e .check-ends .ensures) (r .check-rows .ensures) (c .check-sizes .ensures)
-    ∙ or-pass _ _ (r .before .if1 .left) ∙ or-pass _ _ (c .before .if2 .left))
+    ∙ or-pass _ _ (r .before .before .before .if1 .left) ∙ or-pass _ _ (c .before .if2 .left))
 
 pub refuse-content-spec : {M : Type 1} → statement M
 refuse-content-spec =
@@ -49,6 +55,8 @@ refuse-content-spec =
     (tie.spec
     check-ends-requires
     returns
+    kinds-requires
+    slice-aggregate-check-rows
     check-rows-requires
     returns-2
     check-sizes-requires

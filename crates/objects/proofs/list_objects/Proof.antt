@@ -11,16 +11,23 @@ use borrow.Author.Needs.{needs}
 use Rattle.objects.proofs.list_objects.Statement.{statement}
 use Rattle.objects.proofs.list_objects.Tie as tie
 
+kinds-requires : tie.Need-kinds-requires
+kinds-requires c κs = search needs
+
+slice-aggregate-list-rows : tie.Need-slice-aggregate-list-rows
+slice-aggregate-list-rows c = search needs
+
 list-rows-requires : tie.Need-list-rows-requires
 list-rows-requires c κs =
-    let a = c .before .before .args in
+    let k = c .before in
+    let a = k .before .before .before .args in
     let low = leb (a .from) 33 in
     let short = leb (length (now (a .template))) 212 in
-    (leb-true _ _ (and-left low short (c .if1 .taken)), leb-true _ _ (and-right low short (c .if1 .taken)))
+    (leb-true _ _ (and-left low short (k .before .if1 .taken)), leb-true _ _ (and-right low short (k .before .if1 .taken)), k .kinds .ensures)
 
 returns : tie.Need-returns
 unfolding listed
-returns c = rw (c .before .if1 .taken) (c .list-rows .ensures)
+returns c = rw (c .before .before .before .if1 .taken) (c .list-rows .ensures)
 
 new-requires : tie.Need-new-requires
 new-requires c κs = search needs
@@ -33,4 +40,4 @@ unfolding listed
 returns-2 c = rw (c .before .before .if1 .left) (c .refused .ensures ∙ ap noPlaces (c .before .new .ensures))
 
 pub list-objects-spec : {M : Type 1} → statement M
-list-objects-spec = tie.close (tie.spec list-rows-requires returns new-requires refused-requires returns-2)
+list-objects-spec = tie.close (tie.spec kinds-requires slice-aggregate-list-rows list-rows-requires returns new-requires refused-requires returns-2)

@@ -23,14 +23,14 @@ long c = value-long (c .args .item) (held c) (omega arith)
 returns : tie.Need-returns
 unfolding rowRefusal
 returns c =
-    let s = c .before .before .before in
+    let s = c .before .before .before .before in
     let a = s .args in
     rw (fault-absent (a .row) (valueOf (a .item)) (long s ∙ c .before .before .if1 .taken), c .before .if2 .taken) (c .new .ensures)
 
 returns-2 : tie.Need-returns-2
 unfolding rowRefusal
 returns-2 c =
-    let s = c .before .before in
+    let s = c .before .before .before in
     rw (fault-absent (s .args .row) (valueOf (s .args .item)) (long s ∙ c .before .if1 .taken), c .if2 .left)
 
 permits-requires : tie.Need-permits-requires
@@ -39,13 +39,13 @@ permits-requires c κs = search needs
 check-value-requires : tie.Need-check-value-requires
 check-value-requires c κs =
     let p = c .before in
-    let s = p .before .before in
-    permits-most (s .args .row .lengths) (s .args .item .length) (s .pre) (sym (p .permits .ensures) ∙ c .if3 .taken)
+    let s = p .before .before .before in
+    (permits-most (s .args .row .lengths) (s .args .item .length) (s .pre .0) (sym (p .permits .ensures) ∙ c .if3 .taken), s .pre .1)
 
 returns-3 : tie.Need-returns-3
 returns-3 c =
     let p = c .before .before in
-    let s = p .before .before in
+    let s = p .before .before .before in
     rw (fault-present (s .args .row) (valueOf (s .args .item)) _ (long s) (p .before .if1 .left), sym (p .permits .ensures) ∙ c .before .if3 .taken) (c .check-value .ensures)
 
 of-length-requires : tie.Need-of-length-requires
@@ -56,7 +56,7 @@ unfolding rowRefusal
 returns-4 c =
     let e = c .before in
     let p = e .before in
-    let s = p .before .before in
+    let s = p .before .before .before in
     rw (fault-present (s .args .row) (valueOf (s .args .item)) _ (long s) (p .before .if1 .left), sym (p .permits .ensures) ∙ e .if3 .left) (c .of-length .ensures)
 
 pub check-row-spec : {M : Type 1} → statement M

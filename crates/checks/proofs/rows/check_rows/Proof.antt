@@ -12,10 +12,10 @@ use Rattle.checks.proofs.rows.check_rows.Statement.{statement}
 use Rattle.checks.proofs.rows.check_rows.Tie as tie
 
 abbrev Inv-loop : tie.InvT-loop
-Inv-loop edition content i₀ i = (i ≤ 16) × (rowsFrom i (edition .rows) (content .objects) ≡ rowsRefusal (objectRows edition) (contentOf content .values))
+Inv-loop kinds edition content i₀ i = (i ≤ 16) × (rowsFrom i (edition .rows) (content .objects) ≡ rowsRefusal (objectRows edition) (contentOf content .values))
 
 abbrev μ-loop : tie.MeasureT-loop
-μ-loop edition content i₀ i = 16 - i
+μ-loop kinds edition content i₀ i = 16 - i
 
 seventeen : (c : tie.Start Inv-loop μ-loop) → length (c .args .t1 .rows) ≡ 17
 seventeen c = simp length-map at (c .good .0 .1 .1 .0 .1 .0 .1)
@@ -24,7 +24,7 @@ sixteen : (c : tie.Start Inv-loop μ-loop) → length (c .args .t2 .objects) ≡
 sixteen c = simp length-map at (c .good .1 .0 .1 .1 .1 .1 .1 .0 .1 .0 .1)
 
 loop-holds : tie.Need-loop-holds Inv-loop μ-loop
-loop-holds c = (omega arith, rows-start (c .args .t1) (c .args .t2))
+loop-holds c = (omega arith, rows-start (c .before .args .t1) (c .before .args .t2))
 
 mul-row : tie.Need-mul-row Inv-loop μ-loop
 mul-row c = omega arith
@@ -44,14 +44,14 @@ tag-of-requires c κs = tt
 check-row-requires : tie.Need-check-row-requires Inv-loop μ-loop
 check-row-requires c κs =
     let l = c .before .before .before .before .loop in
-    let s = c .before .before .before .before .before in
-    formed-within (s .args .t1 .rows) (l .i) (formed-rows (s .args .t1) (s .pre)) (omega (arith, seventeen s)) .small
+    let s = c .before .before .before .before .before .before in
+    (formed-within (s .args .t1 .rows) (l .i) (formed-rows (s .args .t1) (s .pre .0)) (omega (arith, seventeen s)) .small, s .pre .1)
 
 returns : tie.Need-returns Inv-loop μ-loop
 returns c =
     let r = c .before .before in
     let l = r .before .before .before .before .before .loop in
-    let s = r .before .before .before .before .before .before in
+    let s = r .before .before .before .before .before .before .before in
     sym (rows-stop (s .args .t1 .rows) (s .args .t2 .objects) (l .i) (omega arith) (seventeen s) (sixteen s) _ (r .before .tag-of .ensures) (r .check-row .ensures) (c .if1 .taken)) ∙ l .inv .1
 
 add-i : tie.Need-add-i Inv-loop μ-loop
@@ -64,13 +64,13 @@ loop-again : tie.Need-loop-again Inv-loop μ-loop
 loop-again c =
     let r = c .before .before in
     let l = r .before .before .before .before .before .loop in
-    let s = r .before .before .before .before .before .before in
+    let s = r .before .before .before .before .before .before .before in
     (omega arith, rows-pass (s .args .t1 .rows) (s .args .t2 .objects) (l .i) (omega arith) (seventeen s) (sixteen s) _ (r .before .tag-of .ensures) (r .check-row .ensures) (c .if1 .left) ∙ l .inv .1)
 
 returns-2 : tie.Need-returns-2 Inv-loop μ-loop
 returns-2 c =
     let l = c .before .loop in
-    let a = c .before .before .args in
+    let a = c .before .before .before .args in
     let e : l .i ≡ 16 = omega arith in
     sym (rows-end (a .t1 .rows) (a .t2 .objects)) ∙ (rw e at (l .inv .1))
 

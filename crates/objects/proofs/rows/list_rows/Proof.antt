@@ -17,11 +17,11 @@ use Rattle.objects.proofs.rows.list_rows.Statement.{statement}
 use Rattle.objects.proofs.rows.list_rows.Tie as tie
 
 abbrev Inv-loop : tie.InvT-loop
-Inv-loop template from rows starts₀ lengths₀ k₀ i₀ starts lengths k i =
+Inv-loop template from kinds rows starts₀ lengths₀ k₀ i₀ starts lengths k i =
     (k ≤ 16) × (i ≤ length template) × (length starts ≡ 16) × (length lengths ≡ 16) × Sofar template rows from k i starts lengths
 
 abbrev μ-loop : tie.MeasureT-loop
-μ-loop template from rows starts₀ lengths₀ k₀ i₀ starts lengths k i = 16 - k
+μ-loop template from kinds rows starts₀ lengths₀ k₀ i₀ starts lengths k i = 16 - k
 
 -- there are seventeen rows
 seventeen : (c : tie.Start Inv-loop μ-loop) → length (c .args .t2) ≡ 17
@@ -30,13 +30,13 @@ seventeen c = c .good .1 .0 .1 .0 .1
 -- what lies where the row's tag stands
 lies : (c : tie.After-known-told Inv-loop μ-loop) →
     let h = c .before .before .before .before .before .before .before in
-    let a = h .before .before .args in
+    let a = h .before .before .before .args in
     let g = c .before .start .given .0 in
     Lies (drop (h .loop .i) (now (a .template))) (a .from + h .loop .i) (g .0) (g .1 .0)
     (look (entryAt (h .loop .k) (getD (a .t2) (h .loop .k) noRow)) (drop (suc (h .loop .k)) tags) (a .from + h .loop .i) (drop (h .loop .i) (now (a .template))))
 lies c =
     let h = c .before .before .before .before .before .before .before in
-    let a = h .before .before .args in
+    let a = h .before .before .before .args in
     let r = entryAt (h .loop .k) (getD (a .t2) (h .loop .k) noRow) in
     let met = sym (c .before .before .before .meet-row .ensures) ∙ c .before .start .given .1 in
     met-there r (drop (suc (h .loop .k)) tags) (drop (h .loop .i) (now (a .template))) (a .from + h .loop .i) _ _
@@ -46,11 +46,11 @@ lies c =
 inside : (c : tie.After-known-told Inv-loop μ-loop) →
     let h = c .before .before .before .before .before .before .before in
     let g = c .before .start .given .0 in
-    (h .loop .i + 2 + g .1 .0 ≤ length (now (h .before .before .args .template))) × (g .0 ≡ h .before .before .args .from + h .loop .i + 2)
+    (h .loop .i + 2 + g .1 .0 ≤ length (now (h .before .before .before .args .template))) × (g .0 ≡ h .before .before .before .args .from + h .loop .i + 2)
 inside c =
     let h = c .before .before .before .before .before .before .before in
     let t = lies c in
-    (omega (arith, t .inside, length-drop (h .loop .i) (now (h .before .before .args .template))), t .begins)
+    (omega (arith, t .inside, length-drop (h .loop .i) (now (h .before .before .before .args .template))), t .begins)
 
 loop-holds : tie.Need-loop-holds Inv-loop μ-loop
 loop-holds c = (search needs, search needs, refl, refl, sofar-none _ _ _)
@@ -88,23 +88,23 @@ loop-less c = search needs
 loop-again : tie.Need-loop-again Inv-loop μ-loop
 loop-again c =
     let h = c .before .before .before .before .before .before in
-    let a = h .before .before .args in
+    let a = h .before .before .before .args in
     let l = h .loop in
     let met = sym (c .before .before .meet-row .ensures) ∙ c .enum-told .given .1 in
     let seen = met-absent (a .from + l .i) _ (rw (part-left (l .i) (now (a .template))) at met) in
-    (omega arith, l .inv .1, l .inv .2, l .inv .3, rw add-one (next-absent (now (a .template)) (a .t2) (a .from) (l .k) (l .i) (l .starts) (l .lengths) (seventeen (h .before .before)) (omega arith) (l .inv .4) seen))
+    (omega arith, l .inv .1, l .inv .2, l .inv .3, rw add-one (next-absent (now (a .template)) (a .t2) (a .from) (l .k) (l .i) (l .starts) (l .lengths) (seventeen (h .before .before .before)) (omega arith) (l .inv .4) seen))
 
 enum-known-start : tie.Need-enum-known-start Inv-loop μ-loop
 enum-known-start c = search needs
 
 cast-starts : tie.Need-cast-starts Inv-loop μ-loop
-cast-starts c = let w = inside c in let p = c .before .before .before .before .before .before .before .before .before .pre in omega (arith, w .0, w .1, p .0, p .1)
+cast-starts c = let w = inside c in let p = c .before .before .before .before .before .before .before .before .before .before .pre in omega (arith, w .0, w .1, p .0, p .1)
 
 array-write-starts : tie.Need-array-write-starts Inv-loop μ-loop
 array-write-starts c = search needs
 
 cast-lengths : tie.Need-cast-lengths Inv-loop μ-loop
-cast-lengths c = let w = inside c in let p = c .before .before .before .before .before .before .before .before .before .pre in omega (arith, w .0, w .1, p .0, p .1)
+cast-lengths c = let w = inside c in let p = c .before .before .before .before .before .before .before .before .before .before .pre in omega (arith, w .0, w .1, p .0, p .1)
 
 array-write-lengths : tie.Need-array-write-lengths Inv-loop μ-loop
 array-write-lengths c = search needs
@@ -113,7 +113,7 @@ add-i : tie.Need-add-i Inv-loop μ-loop
 add-i c = search needs
 
 add-i-2 : tie.Need-add-i-2 Inv-loop μ-loop
-add-i-2 c = let w = inside c in let p = c .before .before .before .before .before .before .before .before .before .pre in omega (arith, w .0, w .1, p .0, p .1)
+add-i-2 c = let w = inside c in let p = c .before .before .before .before .before .before .before .before .before .before .pre in omega (arith, w .0, w .1, p .0, p .1)
 
 add-k-2 : tie.Need-add-k-2 Inv-loop μ-loop
 add-k-2 c = search needs
@@ -124,7 +124,7 @@ loop-less-2 c = search needs
 loop-again-2 : tie.Need-loop-again-2 Inv-loop μ-loop
 loop-again-2 c =
     let h = c .before .before .before .before .before .before .before in
-    let a = h .before .before .args in
+    let a = h .before .before .before .args in
     let l = h .loop in
     let s = now (a .template) in
     let g = c .before .start .given .0 in
@@ -138,7 +138,7 @@ loop-again-2 c =
       length-set (l .starts) (l .k) _ ∙ l .inv .2,
       length-set (l .lengths) (l .k) _ ∙ l .inv .3,
       rw add-one
-          (next-there s (a .t2) (a .from) (l .k) (l .i) (l .starts) (l .lengths) (seventeen (h .before .before)) (omega arith) (l .inv .4) (t .v) n (g .0) (l .i + 2 + n)
+          (next-there s (a .t2) (a .from) (l .k) (l .i) (l .starts) (l .lengths) (seventeen (h .before .before .before)) (omega arith) (l .inv .4) (t .v) n (g .0) (l .i + 2 + n)
           (t .long) (t .some) (l .inv .2) (l .inv .3) (w .1) refl (t .is ∙ ap (there (t .v)) on)),
     )
 
@@ -151,12 +151,12 @@ refused-requires c κs = search needs
 returns : tie.Need-returns Inv-loop μ-loop
 returns c =
     let h = c .before .before .before .before .before .before .before .before in
-    let a = h .before .before .args in
+    let a = h .before .before .before .args in
     let l = h .loop in
     let met = sym (c .before .before .before .before .meet-row .ensures) ∙ c .before .before .refusal .given .1 in
     let seen = met-wrong (a .from + l .i) _ _ (rw (part-left (l .i) (now (a .template))) at met) in
     c .refused .ensures
-    ∙ sym (table-wrong (now (a .template)) (a .t2) (a .from) (l .k) (l .i) (l .starts) (l .lengths) (seventeen (h .before .before)) (omega (arith, c .before .before .before .before .before .before .before)) (l .inv .4) _ seen)
+    ∙ sym (table-wrong (now (a .template)) (a .t2) (a .from) (l .k) (l .i) (l .starts) (l .lengths) (seventeen (h .before .before .before)) (omega (arith, c .before .before .before .before .before .before .before)) (l .inv .4) _ seen)
 
 array-copy-out-last : tie.Need-array-copy-out-last Inv-loop μ-loop
 array-copy-out-last c = search needs
@@ -182,12 +182,12 @@ close-requires c κs = search needs
 returns-2 : tie.Need-returns-2 Inv-loop μ-loop
 returns-2 c =
     let h = c .before .before .before .before .before in
-    let a = h .before .before .args in
+    let a = h .before .before .before .args in
     let l = h .loop in
     let s = now (a .template) in
     let all : l .k ≡ 16 = omega arith in
     c .close .ensures ∙ rw (c .before .refuse-last .ensures, part-left (l .i) s)
-    (sym (table-is s (a .t2) (a .from) (l .i) (l .starts) (l .lengths) (seventeen (h .before .before)) (l .inv .2) (l .inv .3) (l .inv .1) (rw all at (l .inv .4))))
+    (sym (table-is s (a .t2) (a .from) (l .i) (l .starts) (l .lengths) (seventeen (h .before .before .before)) (l .inv .2) (l .inv .3) (l .inv .1) (rw all at (l .inv .4))))
 
 pub list-rows-spec : {M : Type 1} → statement M
 list-rows-spec =

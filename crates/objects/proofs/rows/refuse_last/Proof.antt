@@ -28,11 +28,11 @@ enum-known-start c = search needs
 
 -- what lies there
 lies : (c : tie.After-known-told) →
-    let a = c .before .before .before .before .before .args in
+    let a = c .before .before .before .before .before .before .args in
     let g = c .before .start .given .0 in
     Lies (now (a .part)) (a .at) (g .0) (g .1 .0) (look (entryAt 16 (a .row)) (drop 17 tags) (a .at) (now (a .part)))
 lies c =
-    let a = c .before .before .before .before .before .args in
+    let a = c .before .before .before .before .before .before .args in
     met-there (entryAt 16 (a .row)) (drop 17 tags) (now (a .part)) (a .at) _ _ (sym (c .before .before .before .meet-row .ensures) ∙ c .before .start .given .1)
 
 add-refuse-rest : tie.Need-add-refuse-rest
@@ -52,13 +52,13 @@ enum-known-refusal c = search needs
 
 returns : tie.Need-returns
 returns c =
-    let a = c .before .before .before .before .before .args in
+    let a = c .before .before .before .before .before .before .args in
     let met = sym (c .before .before .before .meet-row .ensures) ∙ c .before .enum-told .given .1 in
     c .refuse-rest .ensures ∙ sym (last-absent (a .at) (a .row) (now (a .part)) (met-absent (a .at) _ met))
 
 returns-2 : tie.Need-returns-2
 returns-2 c =
-    let a = c .before .before .before .before .before .before .args in
+    let a = c .before .before .before .before .before .before .before .args in
     let l = now (a .part) in
     let g = c .before .before .start .given .0 in
     let t = lies (c .before) in
@@ -72,7 +72,7 @@ returns-2 c =
 
 returns-3 : tie.Need-returns-3
 returns-3 c =
-    let a = c .before .before .before .before .before .args in
+    let a = c .before .before .before .before .before .before .args in
     let met = sym (c .before .before .before .meet-row .ensures) ∙ c .before .refusal .given .1 in
     sym (last-wrong (a .at) (a .row) (now (a .part)) _ (met-wrong (a .at) _ _ met))
 

@@ -16,11 +16,11 @@ is-here-requires : tie.Need-is-here-requires
 is-here-requires c κs = search needs
 
 -- the tag stands there
-tagged : (c : tie.Then1) → here (c .before .before .before .args .k) (now (c .before .before .before .args .part)) ≡ true
+tagged : (c : tie.Then1) → here (c .before .before .before .before .args .k) (now (c .before .before .before .before .args .part)) ≡ true
 tagged c = sym (c .before .is-here .ensures) ∙ c .if1 .taken
 
-some : (c : tie.Then1) → 1 ≤ length (now (c .before .before .before .args .part))
-some c = here-some (c .before .before .before .args .k) (now (c .before .before .before .args .part)) (tagged c)
+some : (c : tie.Then1) → 1 ≤ length (now (c .before .before .before .before .args .part))
+some c = here-some (c .before .before .before .before .args .k) (now (c .before .before .before .before .args .part)) (tagged c)
 
 sub-read-object : tie.Need-sub-read-object
 sub-read-object c = some c
@@ -45,7 +45,7 @@ refuse-requires c κs = search needs
 
 returns : tie.Need-returns
 returns c =
-    let a = c .before .before .before .before .before .before .before .before .args in
+    let a = c .before .before .before .before .before .before .before .before .before .args in
     let l = now (a .part) in
     let g = c .before .start .given in
     let found = answer-is (a .k) (a .at) (a .row) (drop 1 l) _ _ (part-left 1 l) (c .before .before .before .read-object .ensures) ∙ g .1 in
@@ -54,7 +54,7 @@ returns c =
 
 returns-2 : tie.Need-returns-2
 returns-2 c =
-    let a = c .before .before .before .before .before .before .before .before .before .args in
+    let a = c .before .before .before .before .before .before .before .before .before .before .args in
     let l = now (a .part) in
     let g = c .before .before .number .given in
     let found = answer-is (a .k) (a .at) (a .row) (drop 1 l) _ _ (part-left 1 l) (c .before .before .before .before .read-object .ensures) ∙ g .1 in
@@ -66,13 +66,13 @@ refuse-missing-requires c κs = search needs
 
 returns-3 : tie.Need-returns-3
 returns-3 c =
-    let a = c .before .before .before .before .before .args in
+    let a = c .before .before .before .before .before .before .args in
     let out = sym (c .before .before .before .is-here .ensures) ∙ c .before .before .if1 .left in
     ap Wrong (c .refuse-missing .ensures) ∙ meets-missing (a .k) (a .at) (a .row) (now (a .part)) out (c .before .if2 .taken)
 
 returns-4 : tie.Need-returns-4
 returns-4 c =
-    let a = c .before .before .before .before .args in
+    let a = c .before .before .before .before .before .args in
     let out = sym (c .before .before .is-here .ensures) ∙ c .before .if1 .left in
     meets-absent (a .k) (a .at) (a .row) (drop (suc (a .k)) tags) (now (a .part)) out (c .if2 .left)
 

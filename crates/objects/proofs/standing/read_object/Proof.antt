@@ -3,10 +3,13 @@ use mathlib.Core.Path.{_≡_, sym, ap, _∙_}
 use Prim.Native.Nat.{ℕ, _+_, _-_, _≤_}
 use native.Mathlib.Omega.{arith}
 use borrow.Author.Tests.{not-true, not-false}
+use mathlib.Core.List.{List}
 use lib.ListN.{length, getD, take, drop}
 use denote.Ref.{now}
 use Rattle.rules.specs.declared.values.Verdict.{Verdict}
 use Rattle.rules.proofs.Verdicts.{told-apart}
+use Rattle.rules.proofs.Tables.{by-kinds}
+use Rattle.rules.specs.Kinds.{judgedBy}
 use Rattle.rules.specs.Values.{ToldVerdict, verdictTold, judged}
 use Rattle.card.specs.Walk.{Seen}
 use Rattle.objects.specs.Objects.{foundTold, foundOf, valued}
@@ -21,7 +24,7 @@ tag-of-requires c κs = search needs
 returns : tie.Need-returns
 unfolding foundOf
 returns c =
-    let a = c .before .before .before .args in
+    let a = c .before .before .before .before .args in
     rw (c .tag-of .ensures) (ap (λ (x : Seen). foundTold (foundOf (a .k) (a .at) x)) (sym (found-cut (a .k) (a .at) (a .row) (now (a .part)) (c .before .if1 .taken))))
 
 shared-slice-read-n : tie.Need-shared-slice-read-n
@@ -30,8 +33,8 @@ shared-slice-read-n c = search needs
 permits-requires : tie.Need-permits-requires
 permits-requires c κs = search needs
 
-add-t15 : tie.Need-add-t15
-add-t15 c = search needs
+add-t16 : tie.Need-add-t16
+add-t16 c = search needs
 
 tag-of-requires-2 : tie.Need-tag-of-requires-2
 tag-of-requires-2 c κs = search needs
@@ -39,15 +42,15 @@ tag-of-requires-2 c κs = search needs
 returns-2 : tie.Need-returns-2
 unfolding foundOf
 returns-2 c =
-    let a = c .before .before .before .before .before .before .args in
+    let a = c .before .before .before .before .before .before .before .args in
     let out = sym (c .before .before .permits .ensures) ∙ not-true (c .before .before .permits .result) (c .before .if2 .taken) in
     rw (c .tag-of2 .ensures) (ap (λ (x : Seen). foundTold (foundOf (a .k) (a .at) x)) (sym (found-unlisted (a .k) (a .at) (a .row) (now (a .part)) (omega arith) out)))
 
 cast-stop : tie.Need-cast-stop
-cast-stop c = omega (arith, c .before .before .shared-slice-known2 .given 0)
+cast-stop c = omega (arith, c .before .before .shared-slice-known3 .given 0)
 
 add-stop : tie.Need-add-stop
-add-stop c = omega (arith, c .before .before .shared-slice-known2 .given 0)
+add-stop c = omega (arith, c .before .before .shared-slice-known3 .given 0)
 
 tag-of-requires-3 : tie.Need-tag-of-requires-3
 tag-of-requires-3 c κs = search needs
@@ -55,22 +58,22 @@ tag-of-requires-3 c κs = search needs
 returns-3 : tie.Need-returns-3
 unfolding foundOf
 returns-3 c =
-    let a = c .before .before .before .before .before .before .before .args in
+    let a = c .before .before .before .before .before .before .before .before .args in
     let listed = sym (c .before .before .before .permits .ensures) ∙ not-false (c .before .before .before .permits .result) (c .before .before .if2 .left) in
     rw (c .tag-of3 .ensures)
     (ap (λ (x : Seen). foundTold (foundOf (a .k) (a .at) x)) (sym (found-overlong (a .k) (a .at) (a .row) (now (a .part)) (omega arith) listed (omega arith))))
 
-sub-judge : tie.Need-sub-judge
-sub-judge c = search needs
+sub-judge-by : tie.Need-sub-judge-by
+sub-judge-by c = search needs
 
-part-judge-start : tie.Need-part-judge-start
-part-judge-start c = search needs
+part-judge-by-start : tie.Need-part-judge-by-start
+part-judge-by-start c = search needs
 
-part-judge-end : tie.Need-part-judge-end
-part-judge-end c = search needs
+part-judge-by-end : tie.Need-part-judge-by-end
+part-judge-by-end c = search needs
 
-judge-requires : tie.Need-judge-requires
-judge-requires c κs = search needs
+judge-by-requires : tie.Need-judge-by-requires
+judge-by-requires c κs = search needs
 
 add-weigh : tie.Need-add-weigh
 add-weigh c = search needs
@@ -78,27 +81,36 @@ add-weigh c = search needs
 cast-weigh : tie.Need-cast-weigh
 cast-weigh c = search needs
 
+-- by the table of the kinds a value is judged as without one
+judged-is : (c : tie.After-judge-by) →
+    let a = c .before .before .before .before .before .before .before .before .before .args in
+    verdictTold (c .judge-by .result) ≡ verdictTold (judged (a .row .rule) (take (1 + getD (now (a .part)) 0 0 - 1) (drop 1 (now (a .part)))))
+judged-is c =
+    let s = c .before .before .before .before .before .before .before .before .before in
+    let v = take (1 + getD (now (s .args .part)) 0 0 - 1) (drop 1 (now (s .args .part))) in
+    c .judge-by .ensures ∙ ap (λ (t : List ℕ). verdictTold (judgedBy t (s .args .row .rule) v)) (s .pre .1) ∙ ap verdictTold (by-kinds (s .args .row .rule) v)
+
 weigh-requires : tie.Need-weigh-requires
 weigh-requires c κs =
-    let a = c .before .before .before .before .before .before .before .before .args in
+    let a = c .before .before .before .before .before .before .before .before .before .args in
     let n = getD (now (a .part)) 0 0 in
-    let long : length (take (1 + n - 1) (drop 1 (now (a .part)))) ≡ 1 + n - 1 = c .before .judge-arg .given .2 in
-    let inside : verdictTold (c .judge .result) .index ≤ 1 + n - 1 =
-    rw (ap (λ (t : ToldVerdict). t .index) (c .judge .ensures)) (rw long at (index-within (a .row .rule) (take (1 + n - 1) (drop 1 (now (a .part)))))) in
+    let long : length (take (1 + n - 1) (drop 1 (now (a .part)))) ≡ 1 + n - 1 = c .before .judge-by-arg .given .2 in
+    let inside : verdictTold (c .judge-by .result) .index ≤ 1 + n - 1 =
+    rw (ap (λ (t : ToldVerdict). t .index) (judged-is c)) (rw long at (index-within (a .row .rule) (take (1 + n - 1) (drop 1 (now (a .part)))))) in
     omega arith
 
 returns-4 : tie.Need-returns-4
 returns-4 c =
-    let a = c .before .before .before .before .before .before .before .before .before .args in
+    let a = c .before .before .before .before .before .before .before .before .before .before .args in
     let l = now (a .part) in
     let n = getD l 0 0 in
     let p = c .before .before .before .before .before in
     let listed = sym (p .permits .ensures) ∙ not-false (p .permits .result) (c .before .before .before .before .if2 .left) in
     let one : 1 + n - 1 ≡ n = omega arith in
-    let long : length (take n (drop 1 l)) ≡ n = rw one at (c .before .before .judge-arg .given .2) in
-    let verdict : c .before .judge .result ≡ judged (a .row .rule) (take n (drop 1 l)) =
-    told-apart _ (judged (a .row .rule) (take (1 + n - 1) (drop 1 l))) (c .before .judge .ensures) ∙ ap (λ (m : ℕ). judged (a .row .rule) (take m (drop 1 l))) one in
-    let weighed : foundTold (c .weigh .result) ≡ foundTold (valued (a .k) (a .at + 2) n (c .before .judge .result)) = c .weigh .ensures in
+    let long : length (take n (drop 1 l)) ≡ n = rw one at (c .before .before .judge-by-arg .given .2) in
+    let verdict : c .before .judge-by .result ≡ judged (a .row .rule) (take n (drop 1 l)) =
+    told-apart _ (judged (a .row .rule) (take (1 + n - 1) (drop 1 l))) (judged-is (c .before)) ∙ ap (λ (m : ℕ). judged (a .row .rule) (take m (drop 1 l))) one in
+    let weighed : foundTold (c .weigh .result) ≡ foundTold (valued (a .k) (a .at + 2) n (c .before .judge-by .result)) = c .weigh .ensures in
     weighed
     ∙ ap (λ (v : Verdict). foundTold (valued (a .k) (a .at + 2) n v)) verdict
     ∙ ap (λ (m : ℕ). foundTold (valued (a .k) (a .at + 2) m (judged (a .row .rule) (take n (drop 1 l))))) (sym long)
@@ -113,17 +125,17 @@ read-object-spec =
     returns
     shared-slice-read-n
     permits-requires
-    add-t15
+    add-t16
     tag-of-requires-2
     returns-2
     cast-stop
     add-stop
     tag-of-requires-3
     returns-3
-    sub-judge
-    part-judge-start
-    part-judge-end
-    judge-requires
+    sub-judge-by
+    part-judge-by-start
+    part-judge-by-end
+    judge-by-requires
     add-weigh
     cast-weigh
     weigh-requires
