@@ -7,8 +7,8 @@ use mathlib.Core.Path.{_≡_, refl, sym, ap, _∙_}
 use mathlib.Core.Bool.{Bool, true, false, cond}
 use mathlib.Core.List.{List, [], _∷_, _++_, append-nil, map}
 use lib.Dec.{eqb, ltb}
-use lib.ListN.{length, getD, take, drop, set, replicate, length-append, length-drop, length-map, List·getD-map, List·getD-eq-default, drop-of-length-le}
-use lib.Seq.{drop-cons, append-snoc, take-suc, take-at, take-append-le, length-take-le, getD-at, getD-set-same, getD-set-other, take-append-seam, ext-getD}
+use lib.ListN.{length, getD, take, drop, set, replicate, length-append, length-drop, length-map, List·getD-map, List·getD-eq-default}
+use lib.Seq.{drop-cons, append-snoc, take-suc, take-append-le, length-take-le, getD-at, getD-set-same, getD-set-other, take-append-seam, take-all, ext-getD}
 use Rattle.edition.specs.declared.Row.{Row}
 use Rattle.edition.specs.Rows.{tags, tagOf, noRow}
 use Rattle.card.specs.declared.Refusal.{Refusal}
@@ -16,7 +16,7 @@ use Rattle.card.specs.Refusals.{none}
 use Rattle.card.specs.Layout.{object, body, tagAt}
 use Rattle.card.specs.Rules.{entries}
 use Rattle.card.specs.Walk.{Seen, absent, there, wrong, look, Walked, through, stopped, push, onward, tagsOf, walk}
-use Rattle.card.specs.Reading.{valuesIn, restRefusal}
+use Rattle.card.specs.Reading.{restRefusal}
 use Rattle.card.proofs.Chains.{or-pass, or-stop}
 use Rattle.card.proofs.Walks.{walk-refuses}
 use Rattle.card.proofs.Starts.{starts-length, starts-at}
@@ -103,8 +103,8 @@ pub record Sofar (t : List ℕ) (rows : List Row) (from k i : ℕ) (st ls : List
   pub many : length vs ≡ k
   pub drawn : i ≡ length (body (take k tags) vs)
   pub walked : walk (entries tags rows) from t ≡ pushAll vs (walk (entries (drop k tags) (drop k rows)) (from + i) (drop i t))
-  pub starts : (j : ℕ) → getD st j 0 ≡ startAt from vs j
-  pub lengths : (j : ℕ) → getD ls j 0 ≡ length (getD vs j [])
+  pub starts : (j : ℕ) → j < 16 → getD st j 0 ≡ startAt from vs j
+  pub lengths : (j : ℕ) → j < 16 → getD ls j 0 ≡ length (getD vs j [])
 
 blank-at : (n j : ℕ) → _≡_ {A = ℕ} (getD (replicate n 0) j 0) 0
 blank-at zero j = refl
@@ -118,8 +118,8 @@ sofar-none t rows from = record {
   many = refl;
   drawn = refl;
   walked = rw (add-zero from) (only (walk (entries tags rows) from t));
-  starts = λ j. blank-at 16 j ∙ sym (start-none from [] j (nil j));
-  lengths = λ j. blank-at 16 j ∙ sym (ap length (nil j));
+  starts = λ j h. blank-at 16 j ∙ sym (start-none from [] j (nil j));
+  lengths = λ j h. blank-at 16 j ∙ sym (ap length (nil j));
 }
   where
     only : (w : Walked) → w ≡ pushAll [] w
@@ -130,7 +130,7 @@ sofar-none t rows from = record {
     nil zero = refl
     nil (suc j) = refl
 
-module _ (t : List ℕ) (rows : List Row) (from k i : ℕ) (st ls : List ℕ) (seventeen : length rows ≡ 17) (below : k < 16) (p : Sofar t rows from k i st ls) where
+module _ (t : List ℕ) (rows : List Row) (from k i : ℕ) (st ls : List ℕ) (seventeen : length rows ≡ 17) (below : k < 17) (p : Sofar t rows from k i st ls) where
   abbrev seen : Seen
   seen = look (entryAt k (getD rows k noRow)) (drop (suc k) tags) (from + i) (drop i t)
 
@@ -145,8 +145,8 @@ module _ (t : List ℕ) (rows : List Row) (from k i : ℕ) (st ls : List ℕ) (s
     many = length-append (p .vs) ([] ∷ []) ∙ omega (arith, p .many);
     drawn = p .drawn ∙ sym (body-next k (p .vs) [] (omega arith) (p .many) ∙ omega arith);
     walked = p .walked ∙ ap (pushAll (p .vs)) (walk-row rows k (from + i) (drop i t) seventeen (omega arith) ∙ ap further e) ∙ push-all (p .vs) [] _;
-    starts = λ j. p .starts j ∙ sym (same j (eqb j (length (p .vs))) refl);
-    lengths = λ j. p .lengths j ∙ sym (ap length (kept j (eqb j (length (p .vs))) refl));
+    starts = λ j h. p .starts j h ∙ sym (same j (eqb j (length (p .vs))) refl);
+    lengths = λ j h. p .lengths j h ∙ sym (ap length (kept j (eqb j (length (p .vs))) refl));
   }
     where
       kept : (j : ℕ) (q : Bool) → eqb j (length (p .vs)) ≡ q → getD (p .vs ++ ([] ∷ [])) j [] ≡ getD (p .vs) j []
@@ -159,111 +159,104 @@ module _ (t : List ℕ) (rows : List Row) (from k i : ℕ) (st ls : List ℕ) (s
           start-none from (p .vs ++ ([] ∷ [])) j (kept j true f ∙ none) ∙ sym (start-none from (p .vs) j none)
       same j false f = start-before from (p .vs) [] j (eqb-false j _ f)
 
-  pub next-there : (v : List ℕ) (n start i′ : ℕ) → length v ≡ n → 0 < n → length st ≡ 16 → length ls ≡ 16 → start ≡ from + i + 2 → i′ ≡ i + 2 + n
-      → seen ≡ there v (drop i′ t) → Sofar t rows from (suc k) i′ (set st k start) (set ls k n)
-  unfolding onward
-  next-there v n start i′ long some hs hl begins moved e = record {
-    vs = p .vs ++ (v ∷ []);
-    many = length-append (p .vs) (v ∷ []) ∙ omega (arith, p .many);
-    drawn = moved ∙ sym (body-next k (p .vs) v (omega arith) (p .many) ∙ omega (arith, p .drawn, object-length (tagOf k) v (omega arith)));
-    walked =
+  -- ---- an object stands there: its place is put into the table, or is that of the checksum, which is not kept
+  module _ (v : List ℕ) (n i′ : ℕ) (long : length v ≡ n) (some : 0 < n) (moved : i′ ≡ i + 2 + n) (e : seen ≡ there v (drop i′ t)) where
+    place : from + i + 2 + length v ≡ from + i′
+    place = omega arith
+
+    there-many : length (p .vs ++ (v ∷ [])) ≡ suc k
+    there-many = length-append (p .vs) (v ∷ []) ∙ omega (arith, p .many)
+
+    there-drawn : i′ ≡ length (body (take (suc k) tags) (p .vs ++ (v ∷ [])))
+    there-drawn = moved ∙ sym (body-next k (p .vs) v (omega arith) (p .many) ∙ omega (arith, p .drawn, object-length (tagOf k) v (omega arith)))
+
+    there-walked : walk (entries tags rows) from t ≡ pushAll (p .vs ++ (v ∷ [])) (walk (entries (drop (suc k) tags) (drop (suc k) rows)) (from + i′) (drop i′ t))
+    unfolding onward
+    there-walked =
         p .walked
         ∙ ap (pushAll (p .vs)) (walk-row rows k (from + i) (drop i t) seventeen (omega arith) ∙ ap further e ∙ ap (λ (m : ℕ). push v (walk (entries (drop (suc k) tags) (drop (suc k) rows)) m (drop i′ t))) place)
-        ∙ push-all (p .vs) v _;
-    starts = λ j. begun j (eqb j k) refl;
-    lengths = λ j. lasts j (eqb j k) refl;
-  }
-    where
-      place : from + i + 2 + length v ≡ from + i′
-      place = omega arith
+        ∙ push-all (p .vs) v _
 
-      begun : (j : ℕ) (q : Bool) → eqb j k ≡ q → getD (set st k start) j 0 ≡ startAt from (p .vs ++ (v ∷ [])) j
-      begun j true f =
-          rw (eqb-true j k f, getD-set-same st k start 0 (omega arith), ← p .many)
-          (begins ∙ sym (start-new from (p .vs) v (omega arith) ∙ omega (arith, p .drawn, ap (λ (m : ℕ). length (body (take m tags) (p .vs))) (p .many))))
-      begun j false f =
-          rw (getD-set-other st k j start 0 (eqb-false j k f)) (p .starts j ∙ sym (start-before from (p .vs) v j (λ z. eqb-false j k f (z ∙ p .many))))
+    pub next-there : (start : ℕ) → k < 16 → length st ≡ 16 → length ls ≡ 16 → start ≡ from + i + 2 → Sofar t rows from (suc k) i′ (set st k start) (set ls k n)
+    next-there start early hs hl begins = record {
+      vs = p .vs ++ (v ∷ []);
+      many = there-many;
+      drawn = there-drawn;
+      walked = there-walked;
+      starts = λ j h. begun j h (eqb j k) refl;
+      lengths = λ j h. lasts j h (eqb j k) refl;
+    }
+      where
+        begun : (j : ℕ) → j < 16 → (q : Bool) → eqb j k ≡ q → getD (set st k start) j 0 ≡ startAt from (p .vs ++ (v ∷ [])) j
+        begun j h true f =
+            rw (eqb-true j k f, getD-set-same st k start 0 (omega arith), ← p .many)
+            (begins ∙ sym (start-new from (p .vs) v (omega arith) ∙ omega (arith, p .drawn, ap (λ (m : ℕ). length (body (take m tags) (p .vs))) (p .many))))
+        begun j h false f =
+            rw (getD-set-other st k j start 0 (eqb-false j k f)) (p .starts j h ∙ sym (start-before from (p .vs) v j (λ z. eqb-false j k f (z ∙ p .many))))
 
-      lasts : (j : ℕ) (q : Bool) → eqb j k ≡ q → getD (set ls k n) j 0 ≡ length (getD (p .vs ++ (v ∷ [])) j [])
-      lasts j true f = rw (eqb-true j k f, getD-set-same ls k n 0 (omega arith), getD-at (p .vs) v [] [] k (p .many)) (sym long)
-      lasts j false f = rw (getD-set-other ls k j n 0 (eqb-false j k f), getD-snoc (p .vs) v j (λ z. eqb-false j k f (z ∙ p .many))) (p .lengths j)
+        lasts : (j : ℕ) → j < 16 → (q : Bool) → eqb j k ≡ q → getD (set ls k n) j 0 ≡ length (getD (p .vs ++ (v ∷ [])) j [])
+        lasts j h true f = rw (eqb-true j k f, getD-set-same ls k n 0 (omega arith), getD-at (p .vs) v [] [] k (p .many)) (sym long)
+        lasts j h false f = rw (getD-set-other ls k j n 0 (eqb-false j k f), getD-snoc (p .vs) v j (λ z. eqb-false j k f (z ∙ p .many))) (p .lengths j h)
 
--- ---- the last row
-module _ (at : ℕ) (r : Row) (l : List ℕ) where
-  abbrev lastly : Refusal
-  lastly = tableRefusal (at + length l) (walk (entryAt 16 r ∷ []) at l)
+    pub next-last : 16 ≤ k → Sofar t rows from (suc k) i′ st ls
+    next-last late = record {
+      vs = p .vs ++ (v ∷ []);
+      many = there-many;
+      drawn = there-drawn;
+      walked = there-walked;
+      starts = λ j h. p .starts j h ∙ sym (start-before from (p .vs) v j (before j h));
+      lengths = λ j h. p .lengths j h ∙ sym (ap length (getD-snoc (p .vs) v j (before j h)));
+    }
+      where
+        before : (j : ℕ) → j < 16 → j ≡ length (p .vs) → ⊥
+        before j h z = omega (arith, h, z, late, p .many)
 
-  last-is : (x : Seen) → look (entryAt 16 r) (drop 17 tags) at l ≡ x → lastly ≡ tableRefusal (at + length l) (onward (walk []) at l x)
-  unfolding walk tags
-  last-is x e = rw e
+-- ---- all rows are done: what is left is told, and the first sixteen values are those of the table
+front : (vs : List (List ℕ)) → length vs ≡ 17 → vs ≡ take 16 vs ++ (getD vs 16 [] ∷ [])
+front vs n = sym (take-all 17 vs (omega arith)) ∙ take-suc vs 16 [] (omega arith)
 
-  pub last-wrong : (x : Refusal) → look (entryAt 16 r) (drop 17 tags) at l ≡ wrong x → lastly ≡ x
-  unfolding tableRefusal onward walk tags
-  last-wrong x e = last-is (wrong x) e ∙ or-stop x _ (walk-refuses (entryAt 16 r ∷ []) at l x (rw e))
+module _ (t : List ℕ) (rows : List Row) (from i : ℕ) (st ls : List ℕ) (hs : length st ≡ 16) (hl : length ls ≡ 16) (inside : i ≤ length t) (p : Sofar t rows from 17 i st ls) where
+  abbrev first : List (List ℕ)
+  first = take 16 (p .vs)
 
-  pub last-absent : look (entryAt 16 r) (drop 17 tags) at l ≡ absent → lastly ≡ restRefusal (at + length l) (length l)
-  unfolding tableRefusal onward push walk
-  last-absent e = last-is absent e ∙ or-pass none _ refl
+  first-long : length first ≡ 16
+  first-long = length-take-le 16 (p .vs) (omega (arith, p .many))
 
-  pub last-there : (v rest : List ℕ) → look (entryAt 16 r) (drop 17 tags) at l ≡ there v rest → lastly ≡ restRefusal (at + length l) (length rest)
-  unfolding tableRefusal onward push walk
-  last-there v rest e = last-is (there v rest) e ∙ or-pass none _ refl
+  kept-at : (j : ℕ) → j < 16 → j ≡ length first → ⊥
+  kept-at j h z = omega (arith, h, z, first-long)
 
--- ---- all rows are done
-table-pushed : (end : ℕ) (vs : List (List ℕ)) (w : Walked) → tableRefusal end (pushAll vs w) ≡ tableRefusal end w
-unfolding tableRefusal
-table-pushed end vs (through ws rest) = refl
-table-pushed end vs (stopped x) = refl
+  starts-are : st ≡ startsFrom from first 0 16
+  starts-are = ext-getD 0 st _ (hs ∙ sym (starts-length from first 0 16))
+      (λ j h. p .starts j (omega arith) ∙ ap (λ (vs : List (List ℕ)). startAt from vs j) (front (p .vs) (p .many)) ∙ start-before from first _ j (kept-at j (omega arith))
+      ∙ sym (starts-at from first 0 16 j (omega arith) ∙ ap (startAt from first) (zero-add j)))
 
-module _ (t : List ℕ) (rows : List Row) (from i : ℕ) (st ls : List ℕ) (seventeen : length rows ≡ 17) (hs : length st ≡ 16) (hl : length ls ≡ 16)
-    (inside : i ≤ length t) (p : Sofar t rows from 16 i st ls) where
-  abbrev last : Refusal
-  last = tableRefusal (from + i + length (drop i t)) (walk (entryAt 16 (getD rows 16 noRow) ∷ []) (from + i) (drop i t))
+  lengths-are : ls ≡ map length first
+  lengths-are = ext-getD 0 ls _ (hl ∙ sym (length-map first length ∙ first-long))
+      (λ j h. p .lengths j (omega arith) ∙ ap (λ (vs : List (List ℕ)). length (getD vs j [])) (front (p .vs) (p .many)) ∙ ap length (getD-snoc first _ j (kept-at j (omega arith)))
+      ∙ sym (List·getD-map length first j []))
 
   abbrev whole : Walked
   whole = walk (entries tags rows) from t
 
-  starts-are : st ≡ startsFrom from (p .vs) 0 16
-  starts-are = ext-getD 0 st _ (hs ∙ sym (starts-length from (p .vs) 0 16)) (λ j h. p .starts j ∙ sym (starts-at from (p .vs) 0 16 j (omega arith) ∙ ap (startAt from (p .vs)) (zero-add j)))
+  walked-is : whole ≡ through (p .vs) (drop i t)
+  unfolding walk entries tags
+  walked-is = p .walked ∙ ap (λ (vs : List (List ℕ)). through vs (drop i t)) (append-nil (p .vs))
 
-  lengths-are : ls ≡ map length (p .vs)
-  lengths-are = ext-getD 0 ls _ (hl ∙ sym (length-map (p .vs) length ∙ p .many)) (λ j h. p .lengths j ∙ sym (List·getD-map length (p .vs) j []))
+  abbrev last : Refusal
+  last = restRefusal (from + i + (length t - i)) (length t - i)
 
-  left-walk : walk (entries (drop 16 tags) (drop 16 rows)) (from + i) (drop i t) ≡ walk (entryAt 16 (getD rows 16 noRow) ∷ []) (from + i) (drop i t)
-  unfolding entries tags
-  left-walk =
-      let none : drop 17 rows ≡ [] = drop-of-length-le rows {i = 17} (omega arith) in
-      let one : drop 16 rows ≡ getD rows 16 noRow ∷ [] = drop-cons rows 16 noRow (omega arith) ∙ ap (λ (rs : List Row). getD rows 16 noRow ∷ rs) none in
-      ap (λ (rs : List Row). walk (entries (drop 16 tags) rs) (from + i) (drop i t)) one
-
-  walked-is : whole ≡ pushAll (p .vs) (walk (entryAt 16 (getD rows 16 noRow) ∷ []) (from + i) (drop i t))
-  walked-is = p .walked ∙ ap (pushAll (p .vs)) left-walk
-
-  last-is-whole : tableRefusal (from + length t) whole ≡ last
-  last-is-whole =
-      let end : from + length t ≡ from + i + length (drop i t) = omega (arith, length-drop i t) in
-      rw (end, walked-is) (table-pushed _ (p .vs) _)
-
-  refused-is : (x : Refusal) → walk (entryAt 16 (getD rows 16 noRow) ∷ []) (from + i) (drop i t) ≡ stopped x → last ≡ x
+  last-is : tableRefusal (from + length t) whole ≡ last
   unfolding tableRefusal
-  refused-is x e = rw e (or-stop x _ (walk-refuses _ _ _ x e))
+  last-is =
+      let end : from + length t ≡ from + i + (length t - i) = omega arith in
+      rw (walked-is, end, length-drop i t) (or-pass none _ refl)
 
   pub table-is : tableOf from (from + length t) whole ≡ cond (eqb (last .number) 0) (record { refusal = none; starts = st; lengths = ls }) (noPlaces last)
   unfolding tableOf placed
-  table-is = rw last-is-whole (go (walk (entryAt 16 (getD rows 16 noRow) ∷ []) (from + i) (drop i t)) refl)
-    where
-      go : (w : Walked) → walk (entryAt 16 (getD rows 16 noRow) ∷ []) (from + i) (drop i t) ≡ w
-          → cond (eqb (last .number) 0) (record { refusal = none; starts = startsFrom from (take 16 (valuesIn whole)) 0 16; lengths = map length (take 16 (valuesIn whole)) }) (noPlaces last)
-          ≡ cond (eqb (last .number) 0) (record { refusal = none; starts = st; lengths = ls }) (noPlaces last)
-      go (through ws rest) e =
-          let vs : take 16 (valuesIn whole) ≡ p .vs = ap (λ (w : Walked). take 16 (valuesIn w)) (walked-is ∙ ap (pushAll (p .vs)) e) ∙ take-at (p .vs) ws 16 (p .many) in
-          rw (vs, ← starts-are, ← lengths-are)
-      go (stopped x) e =
-          let is : last ≡ x = refused-is x e in
-          rw (ne-eqb (last .number) 0 (λ z. walk-refuses _ _ _ x e (ap (λ (y : Refusal). y .number) (sym is) ∙ z)))
+  table-is = rw (last-is, walked-is, ← starts-are, ← lengths-are)
 
 -- a row is wrong: so is the table
-pub table-wrong : (t : List ℕ) (rows : List Row) (from k i : ℕ) (st ls : List ℕ) → length rows ≡ 17 → k < 16 → Sofar t rows from k i st ls → (x : Refusal)
+pub table-wrong : (t : List ℕ) (rows : List Row) (from k i : ℕ) (st ls : List ℕ) → length rows ≡ 17 → k < 17 → Sofar t rows from k i st ls → (x : Refusal)
     → look (entryAt k (getD rows k noRow)) (drop (suc k) tags) (from + i) (drop i t) ≡ wrong x → tableOf from (from + length t) (walk (entries tags rows) from t) ≡ noPlaces x
 unfolding tableOf tableRefusal placed onward
 table-wrong t rows from k i st ls seventeen below p x e =

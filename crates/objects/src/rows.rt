@@ -5,7 +5,6 @@ use card::Places;
 use card::Refusal;
 use edition::Row;
 ghost use mathlib.Core.Path.{_≡_};
-ghost use mathlib.Core.List.{[], _∷_};
 ghost use Prim.Native.Nat.{_+_, _≤_};
 ghost use lib.ListN.{length};
 ghost use Rattle.rules.specs.Kinds.{kindTable};
@@ -17,7 +16,7 @@ ghost use Rattle.card.specs.Reading.{restRefusal};
 ghost use Rattle.card.specs.Places.{noPlaces};
 ghost use mathlib.Core.Bool.{cond};
 ghost use lib.Dec.{eqb};
-ghost use Rattle.objects.specs.Objects.{entryAt, tableRefusal, tableOf};
+ghost use Rattle.objects.specs.Objects.{tableOf};
 
 // 12, where so many bytes are left at `at`.
 fn refuse_rest(left: usize, at: usize) -> Refusal
@@ -27,18 +26,6 @@ fn refuse_rest(left: usize, at: usize) -> Refusal
         Refusal::new(12, at, 0)
     } else {
         Refusal::none()
-    }
-}
-
-// What the last row, that of the checksum, and the bytes behind it are refused with.
-fn refuse_last(part: &[u8], at: usize, row: Row, kinds: &[u8]) -> Refusal
-    requires { ⌜ (at + length (now part) ≤ 255) × (now kinds ≡ kindTable) ⌝ }
-    ensures { λ r. ⌜ r ≡ tableRefusal (at + length (now (part .entry))) (walk (entryAt 16 row ∷ []) at (now (part .entry))) ⌝ }
-{
-    match meet_row(part, at, 16, row, kinds) {
-        Met::Absent => refuse_rest(part.len(), at),
-        Met::There { start, length } => refuse_rest(part.len() - (2 + length), start + length),
-        Met::Wrong { refusal } => refusal,
     }
 }
 
@@ -56,7 +43,7 @@ fn close(refusal: Refusal, starts: [u8; 16], lengths: [u8; 16]) -> Places
     }
 }
 
-// The rows of a template whose bytes begin at the address `from`: the sixteen objects, then the checksum.
+// The rows of a template whose bytes begin at the address `from`: the sixteen objects, and the checksum, whose place is not kept.
 pub(crate) fn list_rows(template: &[u8], rows: [Row; 17], from: usize, kinds: &[u8]) -> Places
     requires { ⌜ (from ≤ 33) × (length (now template) ≤ 212) × (now kinds ≡ kindTable) ⌝ }
     ensures { λ r. ⌜ r ≡ tableOf from (from + length (now (template .entry))) (walk (entries tags rows) from (now (template .entry))) ⌝ }
@@ -65,24 +52,27 @@ pub(crate) fn list_rows(template: &[u8], rows: [Row; 17], from: usize, kinds: &[
     let mut lengths = [0u8; 16];
     let mut k: usize = 0;
     let mut i: usize = 0;
-    while k < 16 {
+    while k < 17 {
         let row = rows[k];
         match meet_row(&template[i..], from + i, k, row, kinds) {
             Met::Absent => {
                 k += 1;
             }
             Met::There { start, length } => {
-                starts[k] = start as u8;
-                lengths[k] = length as u8;
                 i = i + 2 + length;
-                k += 1;
+                if k < 16 {
+                    starts[k] = start as u8;
+                    lengths[k] = length as u8;
+                    k += 1;
+                } else {
+                    k = 17;
+                }
             }
             Met::Wrong { refusal } => {
                 return Places::refused(refusal);
             }
         }
     }
-    let last = rows[16];
-    let refusal = refuse_last(&template[i..], from + i, last, kinds);
-    close(refusal, starts, lengths)
+    let rest = refuse_rest(template.len() - i, from + i);
+    close(rest, starts, lengths)
 }

@@ -12,16 +12,16 @@ use Rattle.edition.specs.Rows.{tags, noRow}
 use Rattle.card.specs.Walk.{look, there}
 use Rattle.objects.specs.Objects.{entryAt}
 use Rattle.objects.proofs.Finds.{part-left, met-absent, met-wrong, Lies, met-there}
-use Rattle.objects.proofs.Steps.{Sofar, sofar-none, next-absent, next-there, table-is, table-wrong}
+use Rattle.objects.proofs.Steps.{Sofar, sofar-none, next-absent, next-there, next-last, table-is, table-wrong}
 use Rattle.objects.proofs.rows.list_rows.Statement.{statement}
 use Rattle.objects.proofs.rows.list_rows.Tie as tie
 
 abbrev Inv-loop : tie.InvT-loop
 Inv-loop template from kinds rows starts₀ lengths₀ k₀ i₀ starts lengths k i =
-    (k ≤ 16) × (i ≤ length template) × (length starts ≡ 16) × (length lengths ≡ 16) × Sofar template rows from k i starts lengths
+    (k ≤ 17) × (i ≤ length template) × (length starts ≡ 16) × (length lengths ≡ 16) × Sofar template rows from k i starts lengths
 
 abbrev μ-loop : tie.MeasureT-loop
-μ-loop template from kinds rows starts₀ lengths₀ k₀ i₀ starts lengths k i = 16 - k
+μ-loop template from kinds rows starts₀ lengths₀ k₀ i₀ starts lengths k i = 17 - k
 
 -- there are seventeen rows
 seventeen : (c : tie.Start Inv-loop μ-loop) → length (c .args .t2) ≡ 17
@@ -97,23 +97,23 @@ loop-again c =
 enum-known-start : tie.Need-enum-known-start Inv-loop μ-loop
 enum-known-start c = search needs
 
-cast-starts : tie.Need-cast-starts Inv-loop μ-loop
-cast-starts c = let w = inside c in let p = c .before .before .before .before .before .before .before .before .before .before .pre in omega (arith, w .0, w .1, p .0, p .1)
-
-array-write-starts : tie.Need-array-write-starts Inv-loop μ-loop
-array-write-starts c = search needs
-
-cast-lengths : tie.Need-cast-lengths Inv-loop μ-loop
-cast-lengths c = let w = inside c in let p = c .before .before .before .before .before .before .before .before .before .before .pre in omega (arith, w .0, w .1, p .0, p .1)
-
-array-write-lengths : tie.Need-array-write-lengths Inv-loop μ-loop
-array-write-lengths c = search needs
-
 add-i : tie.Need-add-i Inv-loop μ-loop
 add-i c = search needs
 
 add-i-2 : tie.Need-add-i-2 Inv-loop μ-loop
 add-i-2 c = let w = inside c in let p = c .before .before .before .before .before .before .before .before .before .before .pre in omega (arith, w .0, w .1, p .0, p .1)
+
+cast-starts : tie.Need-cast-starts Inv-loop μ-loop
+cast-starts c = let w = inside (c .before) in let p = c .before .before .before .before .before .before .before .before .before .before .before .pre in omega (arith, w .0, w .1, p .0, p .1)
+
+array-write-starts : tie.Need-array-write-starts Inv-loop μ-loop
+array-write-starts c = search needs
+
+cast-lengths : tie.Need-cast-lengths Inv-loop μ-loop
+cast-lengths c = let w = inside (c .before) in let p = c .before .before .before .before .before .before .before .before .before .before .before .pre in omega (arith, w .0, w .1, p .0, p .1)
+
+array-write-lengths : tie.Need-array-write-lengths Inv-loop μ-loop
+array-write-lengths c = search needs
 
 add-k-2 : tie.Need-add-k-2 Inv-loop μ-loop
 add-k-2 c = search needs
@@ -121,25 +121,62 @@ add-k-2 c = search needs
 loop-less-2 : tie.Need-loop-less-2 Inv-loop μ-loop
 loop-less-2 c = search needs
 
-loop-again-2 : tie.Need-loop-again-2 Inv-loop μ-loop
-loop-again-2 c =
+-- behind its value the template goes on
+onward-is : (c : tie.After-known-told Inv-loop μ-loop) →
     let h = c .before .before .before .before .before .before .before in
     let a = h .before .before .before .args in
+    let n = c .before .start .given .0 .1 .0 in
+    look (entryAt (h .loop .k) (getD (a .t2) (h .loop .k) noRow)) (drop (suc (h .loop .k)) tags) (a .from + h .loop .i) (drop (h .loop .i) (now (a .template)))
+    ≡ there (lies c .v) (drop (h .loop .i + 2 + n) (now (a .template)))
+onward-is c =
+    let h = c .before .before .before .before .before .before .before in
+    let s = now (h .before .before .before .args .template) in
     let l = h .loop in
-    let s = now (a .template) in
-    let g = c .before .start .given .0 in
-    let n = g .1 .0 in
+    let n = c .before .start .given .0 .1 .0 in
     let t = lies c in
-    let w = inside c in
     let place : l .i + (2 + n) ≡ l .i + 2 + n = omega arith in
-    let on : drop (2 + n) (drop (l .i) s) ≡ drop (l .i + 2 + n) s = drop-drop (2 + n) (l .i) s ∙ ap (λ (m : ℕ). drop m s) place in (
+    let on : drop (2 + n) (drop (l .i) s) ≡ drop (l .i + 2 + n) s = drop-drop (2 + n) (l .i) s ∙ ap (λ (m : ℕ). drop m s) place in
+    t .is ∙ ap (there (t .v)) on
+
+loop-again-2 : tie.Need-loop-again-2 Inv-loop μ-loop
+loop-again-2 c =
+    let d = c .before in
+    let h = d .before .before .before .before .before .before .before in
+    let a = h .before .before .before .args in
+    let l = h .loop in
+    let g = d .before .start .given .0 in
+    let n = g .1 .0 in
+    let t = lies d in
+    let w = inside d in (
       omega arith,
       w .0,
       length-set (l .starts) (l .k) _ ∙ l .inv .2,
       length-set (l .lengths) (l .k) _ ∙ l .inv .3,
       rw add-one
-          (next-there s (a .t2) (a .from) (l .k) (l .i) (l .starts) (l .lengths) (seventeen (h .before .before .before)) (omega arith) (l .inv .4) (t .v) n (g .0) (l .i + 2 + n)
-          (t .long) (t .some) (l .inv .2) (l .inv .3) (w .1) refl (t .is ∙ ap (there (t .v)) on)),
+          (next-there (now (a .template)) (a .t2) (a .from) (l .k) (l .i) (l .starts) (l .lengths) (seventeen (h .before .before .before)) (omega arith) (l .inv .4) (t .v) n (l .i + 2 + n)
+          (t .long) (t .some) refl (onward-is d) (g .0) (c .if1 .taken) (l .inv .2) (l .inv .3) (w .1)),
+    )
+
+loop-less-3 : tie.Need-loop-less-3 Inv-loop μ-loop
+loop-less-3 c = search needs
+
+loop-again-3 : tie.Need-loop-again-3 Inv-loop μ-loop
+loop-again-3 c =
+    let d = c .before in
+    let h = d .before .before .before .before .before .before .before in
+    let a = h .before .before .before .args in
+    let l = h .loop in
+    let n = d .before .start .given .0 .1 .0 in
+    let t = lies d in
+    let w = inside d in
+    let all : suc (l .k) ≡ 17 = omega arith in (
+      omega arith,
+      w .0,
+      l .inv .2,
+      l .inv .3,
+      rw all at
+          (next-last (now (a .template)) (a .t2) (a .from) (l .k) (l .i) (l .starts) (l .lengths) (seventeen (h .before .before .before)) (omega arith) (l .inv .4) (t .v) n (l .i + 2 + n)
+          (t .long) (t .some) refl (onward-is d) (c .if1 .left)),
     )
 
 enum-known-refusal : tie.Need-enum-known-refusal Inv-loop μ-loop
@@ -158,36 +195,27 @@ returns c =
     c .refused .ensures
     ∙ sym (table-wrong (now (a .template)) (a .t2) (a .from) (l .k) (l .i) (l .starts) (l .lengths) (seventeen (h .before .before .before)) (omega (arith, c .before .before .before .before .before .before .before)) (l .inv .4) _ seen)
 
-array-copy-out-last : tie.Need-array-copy-out-last Inv-loop μ-loop
-array-copy-out-last c = search needs
+sub-refuse-rest : tie.Need-sub-refuse-rest Inv-loop μ-loop
+sub-refuse-rest c = search needs
 
-sub-refuse-last : tie.Need-sub-refuse-last Inv-loop μ-loop
-sub-refuse-last c = search needs
+add-refuse-rest : tie.Need-add-refuse-rest Inv-loop μ-loop
+add-refuse-rest c = search needs
 
-part-refuse-last-start : tie.Need-part-refuse-last-start Inv-loop μ-loop
-part-refuse-last-start c = search needs
-
-part-refuse-last-end : tie.Need-part-refuse-last-end Inv-loop μ-loop
-part-refuse-last-end c = search needs
-
-add-refuse-last : tie.Need-add-refuse-last Inv-loop μ-loop
-add-refuse-last c = search needs
-
-refuse-last-requires : tie.Need-refuse-last-requires Inv-loop μ-loop
-refuse-last-requires c κs = search needs
+refuse-rest-requires : tie.Need-refuse-rest-requires Inv-loop μ-loop
+refuse-rest-requires c κs = search needs
 
 close-requires : tie.Need-close-requires Inv-loop μ-loop
 close-requires c κs = search needs
 
 returns-2 : tie.Need-returns-2 Inv-loop μ-loop
 returns-2 c =
-    let h = c .before .before .before .before .before in
+    let h = c .before .before .before in
     let a = h .before .before .before .args in
     let l = h .loop in
-    let s = now (a .template) in
-    let all : l .k ≡ 16 = omega arith in
-    c .close .ensures ∙ rw (c .before .refuse-last .ensures, part-left (l .i) s)
-    (sym (table-is s (a .t2) (a .from) (l .i) (l .starts) (l .lengths) (seventeen (h .before .before .before)) (l .inv .2) (l .inv .3) (l .inv .1) (rw all at (l .inv .4))))
+    let all : l .k ≡ 17 = omega arith in
+    c .close .ensures
+    ∙ rw (c .before .refuse-rest .ensures)
+    (sym (table-is (now (a .template)) (a .t2) (a .from) (l .i) (l .starts) (l .lengths) (l .inv .2) (l .inv .3) (l .inv .1) (rw all at (l .inv .4))))
 
 pub list-rows-spec : {M : Type 1} → statement M
 list-rows-spec =
@@ -208,23 +236,22 @@ list-rows-spec =
     loop-less
     loop-again
     enum-known-start
+    add-i
+    add-i-2
     cast-starts
     array-write-starts
     cast-lengths
     array-write-lengths
-    add-i
-    add-i-2
     add-k-2
     loop-less-2
     loop-again-2
+    loop-less-3
+    loop-again-3
     enum-known-refusal
     refused-requires
     returns
-    array-copy-out-last
-    sub-refuse-last
-    part-refuse-last-start
-    part-refuse-last-end
-    add-refuse-last
-    refuse-last-requires
+    sub-refuse-rest
+    add-refuse-rest
+    refuse-rest-requires
     close-requires
     returns-2)
