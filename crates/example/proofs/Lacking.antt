@@ -1,17 +1,14 @@
--- The lengths that the inner has and the outer has not: the shortest of them is one. Assumes nothing.
+-- The lengths that the inner has and the outer has not. Assumes nothing.
 use Prim.Native.Nat.{ℕ, zero, suc, _/_, _%_, _^_, _<_}
 use native.Mathlib.Omega.{arith}
-use native.Mathlib.Nat.{mod-lt, zero-lt-suc, lt-of-le-of-lt}
+use native.Mathlib.Nat.{mod-lt, zero-lt-suc}
 use mathlib.Core.Path.{_≡_, refl, sym, ap, _∙_}
 use mathlib.Core.Bool.{Bool, true, false, _&&_}
 use lib.Dec.{eqb, ltb}
-use lib.Pow.{pow-pos}
-use lib.Bits.{bitAnd, bitXor, and-shr, xor-shr, and-mod, xor-mod, and-le-l, xor-lt}
+use lib.Bits.{bitAnd, bitXor, and-shr, xor-shr, and-mod, xor-mod}
 use borrow.Author.Tests.{eqb-true, eqb-false}
 use Rattle.ground.proofs.Lists.{true-false, and-left, and-right}
-use Rattle.edition.specs.Sets.{permitted, shortestOf}
-use Rattle.edition.proofs.Sets.{Least, shortest-least, beyond}
-use Rattle.edition.proofs.Rows.{Within28}
+use Rattle.edition.specs.Sets.{permitted}
 use Rattle.example.specs.Cards.{lacking}
 
 -- a digit of the set is 1 where it is 1 of the inner and 0 of the outer
@@ -43,7 +40,7 @@ lacking-in i o n h =
     (rw (some, d .0), rw (some, d .1))
 
 -- a length of the inner's that is none of the outer's is one of the set
-in-lacking : (i o n : ℕ) → permitted i n ≡ true → permitted o n ≡ false → permitted (lacking i o) n ≡ true
+pub in-lacking : (i o n : ℕ) → permitted i n ≡ true → permitted o n ≡ false → permitted (lacking i o) n ≡ true
 unfolding permitted
 in-lacking i o n p q =
     let some : ltb 0 n ≡ true = and-left (ltb 0 n) (eqb (i / 2 ^ n % 2) 1) p in
@@ -54,24 +51,3 @@ in-lacking i o n p q =
     none : (t : Bool) (x : ℕ) → t ≡ true → x < 2 → (t && eqb x 1) ≡ false → x ≡ 0
     none true x e l h = let z = eqb-false x 1 h in omega arith
     none false x e l h = absurd (true-false e refl)
-
-positive : (s n : ℕ) → permitted s n ≡ true → 0 < s
-positive zero n h = absurd (true-false h (beyond 0 n (pow-pos n)))
-positive (suc s) n h = zero-lt-suc s
-
-even : (i o : ℕ) → i % 2 ≡ 0 → lacking i o % 2 ≡ 0
-even i o e =
-    let a : bitAnd i o % 2 ≡ bitAnd (i % 2) (o % 2) = and-mod i o 1 in
-    let x : lacking i o % 2 ≡ bitXor (i % 2) (bitAnd i o % 2) = xor-mod i (bitAnd i o) 1 in
-    x ∙ rw (a, e)
-
-small : (i o : ℕ) → i < 2 ^ 29 → lacking i o < 2 ^ 29
-small i o h = xor-lt 29 i (bitAnd i o) h (lt-of-le-of-lt (and-le-l i o) h)
-
--- the shortest length that the inner has and the outer has not
-pub shortest-lacking : (i o n : ℕ) → Within28 i → permitted i n ≡ true → permitted o n ≡ false
-    → (permitted i (shortestOf (lacking i o)) ≡ true) × (permitted o (shortestOf (lacking i o)) ≡ false)
-shortest-lacking i o n w p q =
-    let s : lacking i o < 2 ^ 29 = small i o (w .small) in
-    let l : Least (lacking i o) (shortestOf (lacking i o)) = shortest-least (lacking i o) (positive (lacking i o) n (in-lacking i o n p q)) (even i o (w .even)) (omega (arith, s)) in
-    lacking-in i o (shortestOf (lacking i o)) (l .member)

@@ -1,124 +1,120 @@
--- Whenever the inner edition writes the card, it accepts the image and the outer refuses it: the row told is not met. Assumes nothing.
-use Prim.Native.Nat.{ℕ, zero, suc, _+_, _<_}
-use native.Mathlib.Nat.{not-suc-le-zero, le-of-suc-le-suc}
+-- Whenever the inner edition writes the card, its object at the row told shows the clause told: the inner accepts the image, and the outer refuses it. Where the row told
+-- stands in a sum that the lengths chosen keep, they are lengths of the narrowed row, since else they would be 28, 28 and 28. Assumes nothing.
+use Prim.Native.Nat.{ℕ, _<_, _≤_}
 use native.Mathlib.Omega.{arith}
 use mathlib.Core.Path.{_≡_, refl, sym, ap, _∙_, subst}
 use mathlib.Core.Bool.{Bool, true, false}
-use mathlib.Core.List.{List, [], _∷_, _++_}
-use lib.Dec.{eqb}
-use lib.ListN.{length, getD, length-append, length-map, List·getD-append}
-use lib.Seq.{getD-append-seam}
-use borrow.Author.Tests.{eq-eqb, eqb-true, eqb-false, lt-leb}
+use mathlib.Core.List.{List, [], _∷_, map}
+use lib.Dec.{ltb}
+use lib.ListN.{length, getD, length-map}
+use borrow.Author.Tests.{lt-leb}
 use Rattle.ground.specs.Lists.{among}
 use Rattle.edition.specs.declared.Row.{Row}
 use Rattle.edition.specs.declared.Edition.{Edition}
-use Rattle.edition.specs.declared.Formed.the-variants.{Well}
-use Rattle.edition.specs.Rows.{noRow, formedOf}
-use Rattle.edition.proofs.Rows.{formed-rows, formed-row}
+use Rattle.edition.specs.Rows.{noRow}
 use Rattle.nesting.specs.declared.Nesting.{Nesting}
 use Rattle.nesting.specs.Decision.{nestingOf}
-use Rattle.nesting.specs.Answers.{Fails, Apart, here, later, Said, is-nested, inner-bad, outer-bad, apart}
 use Rattle.nesting.proofs.Decided.{nesting-said}
 use Rattle.card.specs.declared.Record.{Record}
 use Rattle.card.specs.declared.Reading.{Reading}
 use Rattle.card.specs.Content.{Content, contentOf, recordOf, objectOf}
 use Rattle.card.specs.Refusals.{none}
 use Rattle.card.specs.Layout.{objectTags}
-use Rattle.card.specs.Rules.{entries, objectRows, RowMet, AllMet, one-more, Meets}
+use Rattle.card.specs.Rules.{objectRows, AllMet, Allowed, Meets, namesFit, townFits}
 use Rattle.card.specs.Reading.{reading}
 use Rattle.card.specs.Writing.{recordRefusal}
 use Rattle.card.proofs.Records.{content-back}
 use Rattle.demands.specs.Demands.{LentEdition, LentRecord, InnerReads, same, first}
 use Rattle.demands.proofs.Library.{library}
 use Rattle.demands.proofs.NestedLaws.{outer-allows}
-use Rattle.example.specs.Cards.{listed, partOf, valueFor, valueAt, valuesOf, cardOf, enough, firstFrom, chosenCard, exampleOf}
-use Rattle.example.specs.Shows.{image, Shows}
-use Rattle.example.proofs.Shown.{value-shown}
+use Rattle.choosing.specs.declared.Three.{Three}
+use Rattle.choosing.specs.Choices.{willDo, three, sumHolds, chosen}
+use Rattle.choosing.proofs.Fitting.{chosen-fits, sum-chosen}
+use Rattle.example.specs.Cards.{narrow, rowsFor, grouped, startOf, plainRow, threeAt, placeOf, byPlace, lengthAt, valueFor, valuesOf, cardOf, enough, firstFrom, chosenCard, exampleOf}
+use Rattle.example.specs.Shows.{image, Shows, ShowsClause, Shown}
+use Rattle.example.proofs.Grouped.{Kind, alone, title, given, prefix, country, postal, town, kind}
+use Rattle.example.proofs.Shown.{told-both, told-some, not-met, asks}
+use Rattle.example.proofs.Wills.{Parts, parts, alone-fits, alone-small, alone-length, namesOf, townOf, names-lengths, town-lengths}
+use Rattle.example.proofs.Told.{Told, told-at, met-at, row-told, part-told, value-at, values-length, length-at, names-by, town-by, formed-at}
 use Rattle.example.proofs.Widest.{widest, widest-rows, in-widest}
 
--- ---- a list by its index
-pub listed-length : {A : Type 0} (n : ℕ) (f : ℕ → A) → length (listed n f) ≡ n
-unfolding listed
-listed-length zero f = refl
-listed-length (suc n) f = let h = listed-length n f in length-append (listed n f) (f n ∷ []) ∙ omega arith
+-- ---- the length at the row told is one of the narrowed row
+alone-told : (rows : List Row) (long k m : ℕ) → grouped k ≡ false → m ≤ 28 → willDo (getD rows k noRow) m ≡ true → willDo (getD rows k noRow) (lengthAt rows long k) ≡ true
+unfolding lengthAt
+alone-told rows long k m e small h =
+    let q : Bool = ltb (startOf k) long in
+    let r : Row = getD rows k noRow in
+    let p = parts false plainRow plainRow r (chosen q false plainRow plainRow r)
+    (chosen-fits q false plainRow plainRow r (three 0 0 m) (alone-small m small) (alone-fits r m h)) in
+    subst (λ (x : ℕ). willDo r x ≡ true) (sym (alone-length q rows k e)) (p .third)
 
-pub listed-at : {A : Type 0} (n : ℕ) (f : ℕ → A) (k : ℕ) (d : A) → k < n → getD (listed n f) k d ≡ f k
-unfolding listed
-listed-at zero f k d h = absurd (not-suc-le-zero h)
-listed-at (suc n) f k d h = go (eqb k n) refl (listed-at n f k d)
-  where
-    l : length (listed n f) ≡ n
-    l = listed-length n f
+names-told : (rows : List Row) (long : ℕ) → sumHolds true (three (lengthAt rows long 6) (lengthAt rows long 7) (lengthAt rows long 8)) ≡ true
+    → Parts true (getD rows 6 noRow) (getD rows 7 noRow) (getD rows 8 noRow) (namesOf (ltb 6 long) rows)
+unfolding lengthAt startOf grouped
+names-told rows long h =
+    parts true _ _ _ _ (sum-chosen (ltb 6 long) true (getD rows 6 noRow) (getD rows 7 noRow) (getD rows 8 noRow)
+    (subst (λ (t : Three). sumHolds true t ≡ true) (names-lengths (ltb 6 long) rows) h))
 
-    go : (q : Bool) → eqb k n ≡ q → (k < n → getD (listed n f) k d ≡ f k) → getD (listed n f ++ (f n ∷ [])) k d ≡ f k
-    go true e ih =
-        let same : k ≡ n = eqb-true k n e in
-        rw same (subst (λ (j : ℕ). getD (listed n f ++ (f n ∷ [])) j d ≡ f n) l (getD-append-seam (listed n f) (f n) [] d))
-    go false e ih =
-        let less : k < n = omega (arith, eqb-false k n e) in
-        List·getD-append (listed n f) (f n ∷ []) d k (omega (arith, l, less)) ∙ ih less
+town-told : (rows : List Row) (long : ℕ) → sumHolds false (three (lengthAt rows long 12) (lengthAt rows long 13) (lengthAt rows long 14)) ≡ true
+    → Parts false (getD rows 12 noRow) (getD rows 13 noRow) (getD rows 14 noRow) (townOf (ltb 12 long) rows)
+unfolding lengthAt startOf grouped
+town-told rows long h =
+    parts false _ _ _ _ (sum-chosen (ltb 12 long) false (getD rows 12 noRow) (getD rows 13 noRow) (getD rows 14 noRow)
+    (subst (λ (t : Three). sumHolds false t ≡ true) (town-lengths (ltb 12 long) rows) h))
 
--- ---- the row told
-pub record At (is os : List Row) (m c : ℕ) : Type 0 where
-  pub fails : Fails (getD is m noRow) (getD os m noRow) c
-  pub there : m < length is
+will-kind : (rows : List Row) (long k : ℕ) → Kind k → (m : ℕ) × (m ≤ 28) × (willDo (getD rows k noRow) m ≡ true)
+    → sumHolds true (three (lengthAt rows long 6) (lengthAt rows long 7) (lengthAt rows long 8)) ≡ true
+    → sumHolds false (three (lengthAt rows long 12) (lengthAt rows long 13) (lengthAt rows long 14)) ≡ true
+    → willDo (getD rows k noRow) (lengthAt rows long k) ≡ true
+unfolding lengthAt startOf grouped byPlace placeOf threeAt
+will-kind rows long k (alone e) s a b = alone-told rows long k (s .0) e (s .1) (s .2)
+will-kind rows long k title s a b = names-told rows long a .first
+will-kind rows long k given s a b = names-told rows long a .second
+will-kind rows long k prefix s a b = names-told rows long a .third
+will-kind rows long k country s a b = town-told rows long b .first
+will-kind rows long k postal s a b = town-told rows long b .second
+will-kind rows long k town s a b = town-told rows long b .third
 
-apart-at : (k j c : ℕ) (is os : List Row) → Apart k is os j c → (m : ℕ) × (j ≡ k + m) × At is os m c
-apart-at k j c (i ∷ is) (o ∷ os) (here f) = (0, omega arith, record { fails = f; there = omega arith })
-apart-at k j c (i ∷ is) (o ∷ os) (later w a) = go (apart-at (suc k) j c is os a)
-  where
-    go : (m : ℕ) × (j ≡ suc k + m) × At is os m c → (m : ℕ) × (j ≡ k + m) × At (i ∷ is) (o ∷ os) m c
-    go (m, e, t) = (suc m, omega arith, record { fails = t .fails; there = omega (arith, t .there) })
+module _ (i o : Edition) (n : Nesting) (long : ℕ) (li : LentEdition i) (lo : LentEdition o) (h : n .row < 16) (t : Told i o n) where
+  abbrev inner-row : Row
+  inner-row = getD (i .rows) (n .row) noRow
 
--- both editions are well formed, and the clause told fails of the row told
-pub record Told (i o : Edition) (n : Nesting) : Type 0 where
-  pub inner : formedOf i ≡ Well
-  pub outer : formedOf o ≡ Well
-  pub at : At (i .rows) (o .rows) (n .row) (n .clause)
+  abbrev outer-row : Row
+  outer-row = getD (o .rows) (n .row) noRow
 
-pub told-at : (i o : Edition) (n : Nesting) → n .row < 16 → Said i o n → Told i o n
-told-at i o n h (is-nested m e) = let z : n .row ≡ 17 = ap (λ (x : Nesting). x .row) e in absurd (omega arith)
-told-at i o n h (inner-bad m e) = let z : n .row ≡ 17 = ap (λ (x : Nesting). x .row) e in absurd (omega arith)
-told-at i o n h (outer-bad p m e) = let z : n .row ≡ 17 = ap (λ (x : Nesting). x .row) e in absurd (omega arith)
-told-at i o n h (apart k c p q a e) = record { inner = p; outer = q; at = rw e (go (apart-at 0 k c (i .rows) (o .rows) a)) }
-  where
-    go : (m : ℕ) × (k ≡ 0 + m) × At (i .rows) (o .rows) m c → At (i .rows) (o .rows) k c
-    go (m, e, t) = let same : m ≡ k = omega arith in subst (λ (j : ℕ). At (i .rows) (o .rows) j c) same t
+  abbrev rows : List Row
+  rows = rowsFor (i .rows) (o .rows) n
 
--- ---- the outer's rows are not all met
-met-at : (ts : List ℕ) (rs : List Row) (vs : List (List ℕ)) (k : ℕ) → AllMet (entries ts rs) vs → k < length vs → RowMet (getD rs k noRow) (getD vs k [])
-unfolding entries
-met-at [] rs [] k a h = absurd (not-suc-le-zero h)
-met-at (t ∷ ts) [] [] k a h = absurd (not-suc-le-zero h)
-met-at (t ∷ ts) (r ∷ rs) [] k a h = absurd (not-suc-le-zero h)
-met-at (t ∷ ts) (r ∷ rs) (v ∷ vs) zero (one-more m a) h = m
-met-at (t ∷ ts) (r ∷ rs) (v ∷ vs) (suc k) (one-more m a) h = met-at ts rs vs k a (le-of-suc-le-suc h)
+  narrowed : getD rows (n .row) noRow ≡ narrow (n .clause) inner-row outer-row
+  narrowed = row-told (i .rows) (o .rows) n (omega (arith, h, li))
 
-part-told : (n : Nesting) (long : ℕ) → partOf n long (n .row) ≡ n .clause
-unfolding partOf
-part-told n long = rw (eq-eqb (n .row) (n .row) refl)
+  will-told : namesFit (map length (valuesOf (i .rows) (o .rows) n long)) ≡ true → townFits (map length (valuesOf (i .rows) (o .rows) n long)) ≡ true
+      → willDo (narrow (n .clause) inner-row outer-row) (lengthAt rows long (n .row)) ≡ true
+  will-told a b =
+      let s = told-some inner-row outer-row (n .clause) (formed-at i (n .row) li (t .inner) h) (t .at .fails) in
+      let at = length-at (i .rows) (o .rows) n long in
+      subst (λ (r : Row). willDo r (lengthAt rows long (n .row)) ≡ true) narrowed
+      (will-kind rows long (n .row) (kind (n .row)) (s .0, s .1, subst (λ (r : Row). willDo r (s .0) ≡ true) (sym narrowed) (s .2))
+      (sym (names-by (valuesOf (i .rows) (o .rows) n long) (lengthAt rows long) at) ∙ a)
+      (sym (town-by (valuesOf (i .rows) (o .rows) n long) (lengthAt rows long) at) ∙ b))
 
-value-told : (is os : List Row) (n : Nesting) (long : ℕ) → n .row < 16 → getD (valuesOf is os n long) (n .row) [] ≡ valueFor (n .clause) (getD is (n .row) noRow) (getD os (n .row) noRow)
-unfolding valuesOf
-value-told is os n long h =
-    listed-at 16 (valueAt is os n long) (n .row) [] h
-    ∙ ap (λ (p : ℕ). valueFor p (getD is (n .row) noRow) (getD os (n .row) noRow)) (part-told n long)
+  pub value-told : getD (valuesOf (i .rows) (o .rows) n long) (n .row) [] ≡ valueFor (n .clause) inner-row outer-row (lengthAt rows long (n .row))
+  value-told =
+      value-at (i .rows) (o .rows) n long (n .row) h
+      ∙ ap (λ (p : ℕ). valueFor p inner-row outer-row (lengthAt rows long (n .row))) (part-told n)
 
-pub value-at : (is os : List Row) (n : Nesting) (long : ℕ) (k : ℕ) → k < 16 → getD (valuesOf is os n long) k [] ≡ valueAt is os n long k
-unfolding valuesOf
-value-at is os n long k h = listed-at 16 (valueAt is os n long) k [] h
+  pub clause-told : namesFit (map length (valuesOf (i .rows) (o .rows) n long)) ≡ true → townFits (map length (valuesOf (i .rows) (o .rows) n long)) ≡ true
+      → ShowsClause outer-row (n .clause) (getD (valuesOf (i .rows) (o .rows) n long) (n .row) [])
+  clause-told a b =
+      subst (ShowsClause outer-row (n .clause)) (sym value-told)
+      (told-both inner-row outer-row (n .clause) (lengthAt rows long (n .row)) (formed-at i (n .row) li (t .inner) h) (formed-at o (n .row) lo (t .outer) h) (t .at .fails) (will-told a b) .1)
 
-pub values-length : (is os : List Row) (n : Nesting) (long : ℕ) → length (valuesOf is os n long) ≡ 16
-unfolding valuesOf
-values-length is os n long = listed-length 16 (valueAt is os n long)
-
-not-met : (i o : Edition) (n : Nesting) (long : ℕ) → n .row < 16 → Told i o n → AllMet (objectRows o) (valuesOf (i .rows) (o .rows) n long) → ⊥
-not-met i o n long h t a =
-    let m : RowMet (getD (o .rows) (n .row) noRow) (getD (valuesOf (i .rows) (o .rows) n long) (n .row) []) =
-    met-at objectTags (o .rows) (valuesOf (i .rows) (o .rows) n long) (n .row) a (omega (arith, values-length (i .rows) (o .rows) n long)) in
-    let v = subst (RowMet (getD (o .rows) (n .row) noRow)) (value-told (i .rows) (o .rows) n long h) m in
-    value-shown (eqb (n .row) 16) (getD (i .rows) (n .row) noRow) (getD (o .rows) (n .row) noRow) (n .clause)
-    (formed-row (i .rows) (n .row) (formed-rows i (t .inner)) (t .at .there)) (t .at .fails) v
+-- a content that shows the clause told does not meet the outer's rows
+outer-unmet : (i o : Edition) (n : Nesting) (c : Content) → n .row < 16 → length (c .values) ≡ 16 → Told i o n
+    → ShowsClause (getD (o .rows) (n .row) noRow) (n .clause) (getD (c .values) (n .row) []) → AllMet (objectRows o) (c .values) → ⊥
+outer-unmet i o n c h l t s a =
+    not-met (getD (o .rows) (n .row) noRow) (n .clause) (getD (c .values) (n .row) []) (asks (getD (i .rows) (n .row) noRow) (getD (o .rows) (n .row) noRow) (n .clause) (t .at .fails)) s
+    (met-at objectTags (o .rows) (c .values) (n .row) a (omega (arith, h, l)))
 
 -- ---- the card: so many rows are long, and its record
 pub record Made (i o : Edition) (n : Nesting) (c : Content) : Type 0 where
@@ -158,40 +154,64 @@ lent-made i o n c m = record {
 pub example-lent : (i o : Edition) → nestingOf i o .row < 16 → LentRecord (exampleOf i o)
 example-lent i o h = subst LentRecord (sym (record-of i o h)) (lent-made i o (nestingOf i o) (chosenCard i o (nestingOf i o)) (chosen-made i o (nestingOf i o)))
 
+pub values-16 : (i o : Edition) (n : Nesting) (c : Content) → Made i o n c → length (c .values) ≡ 16
+values-16 i o n c m = ap length (made-values i o n c m) ∙ values-length (i .rows) (o .rows) n (m .long)
+
 read-refused : (o : Edition) (c : Content) (r : Reading) → InnerReads o c r → (AllMet (objectRows o) (c .values) → ⊥) → among (r .refusal .number) (6 ∷ 7 ∷ 9 ∷ 10 ∷ []) ≡ true
 read-refused o c r (same a) h = absurd (h a)
 read-refused o c r (first x u n) h = n
 
 -- ---- whenever the inner writes it
-pub example-shows : (i o : Edition) (b : List ℕ) → LentEdition i → LentEdition o → nestingOf i o .row < 16 → recordRefusal i (exampleOf i o) b ≡ none → Shows i o (image i o b)
-example-shows i o b li lo h w = record { inner = forth .0; outer = read-refused o (m .content) (reading o s) (library .third o widest lo widest-rows (in-widest o lo (t .outer)) .reads s wide .1) unmet }
-  where
-    t : Told i o (nestingOf i o)
-    t = told-at i o (nestingOf i o) h (nesting-said i o (li ∙ sym lo))
+module _ (i o : Edition) (b : List ℕ) (li : LentEdition i) (lo : LentEdition o) (h : nestingOf i o .row < 16) (w : recordRefusal i (exampleOf i o) b ≡ none) where
+  told : Told i o (nestingOf i o)
+  told = told-at i o (nestingOf i o) h (nesting-said i o (li ∙ sym lo))
 
-    made : Made i o (nestingOf i o) (chosenCard i o (nestingOf i o))
-    made = chosen-made i o (nestingOf i o)
+  made : Made i o (nestingOf i o) (chosenCard i o (nestingOf i o))
+  made = chosen-made i o (nestingOf i o)
 
-    s : List ℕ
-    s = image i o b
+  abbrev card : Content
+  card = chosenCard i o (nestingOf i o)
 
-    forth : (reading i s .refusal ≡ none) × (contentOf (reading i s .content) ≡ contentOf (exampleOf i o)) × (reading i s .content .number ≡ exampleOf i o .number)
-    forth = library .second .forth i (exampleOf i o) b li (example-lent i o h) w
+  allowed : Allowed i card
+  allowed = subst (Allowed i) (example-content i o h) (library .second .writes i (exampleOf i o) b li (example-lent i o h) .0 w .0)
 
-    m : Meets i s
-    m = library .second .accepts i s li .0 (forth .0)
+  -- its object at the row told shows the clause told
+  pub example-shown : Shown i o (nestingOf i o) card
+  example-shown =
+      let values = made-values i o (nestingOf i o) card made in
+      record {
+        allowed = allowed;
+        clause = subst (λ (vs : List (List ℕ)). ShowsClause (getD (o .rows) (nestingOf i o .row) noRow) (nestingOf i o .clause) (getD vs (nestingOf i o .row) [])) (sym values)
+            (clause-told i o (nestingOf i o) (made .long) li lo h told
+            (subst (λ (vs : List (List ℕ)). namesFit (map length vs) ≡ true) values (allowed .names))
+            (subst (λ (vs : List (List ℕ)). townFits (map length vs) ≡ true) values (allowed .town)));
+      }
 
-    wide : Meets widest s
-    wide = record { content = m .content; allowed = outer-allows i widest (m .content) (in-widest i li (t .inner)) (m .allowed); drawn = m .drawn }
+  forth : (reading i (image i o b) .refusal ≡ none) × (contentOf (reading i (image i o b) .content) ≡ contentOf (exampleOf i o)) × (reading i (image i o b) .content .number ≡ exampleOf i o .number)
+  forth = library .second .forth i (exampleOf i o) b li (example-lent i o h) w
 
-    content : m .content ≡ chosenCard i o (nestingOf i o)
-    content =
-        sym (content-back (i .number) (m .content))
-        ∙ sym (ap contentOf (library .second .holds i s li m))
-        ∙ forth .1
-        ∙ example-content i o h
+  met : Meets i (image i o b)
+  met = library .second .accepts i (image i o b) li .0 (forth .0)
 
-    unmet : AllMet (objectRows o) (m .content .values) → ⊥
-    unmet a =
-        not-met i o (nestingOf i o) (made .long) h t
-        (subst (AllMet (objectRows o)) (ap (λ (c : Content). c .values) content ∙ made-values i o (nestingOf i o) (chosenCard i o (nestingOf i o)) made) a)
+  wide : Meets widest (image i o b)
+  wide = record { content = met .content; allowed = outer-allows i widest (met .content) (in-widest i li (told .inner)) (met .allowed); drawn = met .drawn }
+
+  content : met .content ≡ card
+  content =
+      sym (content-back (i .number) (met .content))
+      ∙ sym (ap contentOf (library .second .holds i (image i o b) li met))
+      ∙ forth .1
+      ∙ example-content i o h
+
+  unmet : AllMet (objectRows o) (met .content .values) → ⊥
+  unmet a =
+      outer-unmet i o (nestingOf i o) card h (values-16 i o (nestingOf i o) card made) told (example-shown .clause)
+      (subst (AllMet (objectRows o)) (ap (λ (c : Content). c .values) content) a)
+
+  -- the inner accepts the image, and the outer refuses it
+  pub example-shows : Shows i o (image i o b)
+  unfolding met wide
+  example-shows = record {
+    inner = forth .0;
+    outer = read-refused o (met .content) (reading o (image i o b)) (library .third o widest lo widest-rows (in-widest o lo (told .outer)) .reads (image i o b) wide .1) unmet;
+  }

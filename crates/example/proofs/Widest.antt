@@ -24,7 +24,7 @@ use Rattle.nesting.proofs.Lengths.{bits-within}
 use Rattle.nesting.proofs.Sound.{rule-sound}
 
 -- any text of any length, required nowhere; and row 8E, which has one form
-abbrev wideRow : Row
+abbrev pub wideRow : Row
 wideRow = record { required = false; rule = Text; lengths = upTo 1 28 }
 
 abbrev lastRow : Row
@@ -63,7 +63,7 @@ in-text Expiry s p b x h = refl
 in-text Raw s p b x h = absurd (true-false h refl)
 in-text NotD s p b x h = refl
 
-within-wide : (r : Row) → rowFormed false r ≡ true → Within r wideRow
+pub within-wide : (r : Row) → rowFormed false r ≡ true → Within r wideRow
 within-wide r h =
     let w : Within28 (r .lengths) = row-within false r h in
     let t : ruleIn (r .lengths) (r .rule) Text ≡ true =

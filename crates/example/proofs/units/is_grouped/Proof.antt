@@ -1,0 +1,12 @@
+-- `example::units::is_grouped` meets its contract: its tests are those of the definition. Assumes nothing.
+use mathlib.Core.Path.{refl}
+use Rattle.example.specs.Cards.{grouped}
+use Rattle.example.proofs.units.is_grouped.Statement.{statement}
+use Rattle.example.proofs.units.is_grouped.Tie as tie
+
+returns : tie.Need-returns
+unfolding grouped
+returns c = refl
+
+pub is-grouped-spec : {M : Type 1} → statement M
+is-grouped-spec = tie.close (tie.spec returns)
