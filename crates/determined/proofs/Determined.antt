@@ -44,11 +44,16 @@ use Rattle.frame.proofs.number_tail.Reads as number-tail
 use Rattle.objects.proofs.list_objects.Reads as list-objects
 use Rattle.reader.proofs.places.Reads as places
 use Rattle.reader.proofs.read.Reads as read
+use Rattle.shipped_tables.proofs.lent_edition.Reads as lent-edition
+use Rattle.reader.proofs.places_lent.Reads as places-lent
+use Rattle.reader.proofs.read_lent.Reads as read-lent
 use Rattle.checks.proofs.check.Reads as check
+use Rattle.checks.proofs.check_lent.Reads as check-lent
 use Rattle.checks.proofs.check_content.Reads as check-content
 use Rattle.renumber.proofs.renumber.Reads as renumber
 use Rattle.checks.proofs.objects_size.Reads as objects-size
 use Rattle.writer.proofs.write.Reads as write
+use Rattle.writer.proofs.write_lent.Reads as write-lent
 use Rattle.listing.proofs.list.Reads as list
 use Rattle.wire_tables.proofs.edition_of.Reads as edition-of
 use Rattle.wire_tables.proofs.write_table.Reads as write-table
@@ -146,8 +151,20 @@ places-once κs a z y e f p q = p ∙ sym q
 pub read-once : (κs : _) (a : _) (z y : _) (e f : _) → read.Post κs a z e → read.Post κs a y f → z ≡ y
 read-once κs a z y e f p q = p ∙ sym q
 
+pub lent-edition-once : (κs : _) (a : _) (z y : _) (e f : _) → lent-edition.Post κs a z e → lent-edition.Post κs a y f → z ≡ y
+lent-edition-once κs a z y e f p q = p ∙ sym q
+
+pub places-lent-once : (κs : _) (a : _) (z y : _) (e f : _) → places-lent.Post κs a z e → places-lent.Post κs a y f → z ≡ y
+places-lent-once κs a z y e f p q = p ∙ sym q
+
+pub read-lent-once : (κs : _) (a : _) (z y : _) (e f : _) → read-lent.Post κs a z e → read-lent.Post κs a y f → z ≡ y
+read-lent-once κs a z y e f p q = p ∙ sym q
+
 pub check-once : (κs : _) (a : _) (z y : _) (e f : _) → check.Post κs a z e → check.Post κs a y f → z ≡ y
 check-once κs a z y e f p q = p ∙ sym q
+
+pub check-lent-once : (κs : _) (a : _) (z y : _) (e f : _) → check-lent.Post κs a z e → check-lent.Post κs a y f → z ≡ y
+check-lent-once κs a z y e f p q = p ∙ sym q
 
 pub check-content-once : (κs : _) (a : _) (z y : _) (e f : _) → check-content.Post κs a z e → check-content.Post κs a y f → z ≡ y
 check-content-once κs a z y e f p q = p ∙ sym q
@@ -189,6 +206,12 @@ write-once κs a z y e f p q = p .0 ∙ sym (q .0)
 
 pub write-buffer-once : (κs : _) (a : _) (z y : _) (e f : _) → write.Post κs a z e → write.Post κs a y f → now (e .1 .1 .0) ≡ now (f .1 .1 .0)
 write-buffer-once κs a z y e f p q = p .1 ∙ sym (q .1)
+
+pub write-lent-once : (κs : _) (a : _) (z y : _) (e f : _) → write-lent.Post κs a z e → write-lent.Post κs a y f → z ≡ y
+write-lent-once κs a z y e f p q = p .0 ∙ sym (q .0)
+
+pub write-lent-buffer-once : (κs : _) (a : _) (z y : _) (e f : _) → write-lent.Post κs a z e → write-lent.Post κs a y f → now (e .1 .1 .0) ≡ now (f .1 .1 .0)
+write-lent-buffer-once κs a z y e f p q = p .1 ∙ sym (q .1)
 
 pub write-table-room-once : (κs : _) (a : _) (z y : _) (e f : _) → write-table.Post κs a z e → write-table.Post κs a y f → now (e .1 .0) ≡ now (f .1 .0)
 write-table-room-once κs a z y e f p q = p ∙ sym q
