@@ -6,14 +6,18 @@ use lib.Dec.{eqb}
 use lib.ListN.{length, set}
 use Rattle.edition.specs.Tables.{terminal, issue}
 use Rattle.card.specs.declared.Refusal.{Refusal}
-use Rattle.card.specs.Content.{contentOf, emptyRecord}
+use Rattle.card.specs.Content.{contentOf, objectOf, emptyRecord}
 use Rattle.card.specs.Refusals.{refuse, none, gate}
 use Rattle.card.specs.Layout.{layout}
 use Rattle.card.specs.declared.Reading.{Reading}
 use Rattle.card.specs.Reading.{reading}
 use Rattle.card.specs.Writing.{recordRefusal, renumberRefusal}
 use Rattle.wire_tables.specs.Tables.{editionFrom, tableBytes}
-use Rattle.wire_records.specs.Records.{recordFrom, recordBytes}
+use Rattle.wire_records.specs.Records.{recordFrom, objectBytes, recordBytes}
+
+-- the bytes of a value's object in a record
+abbrev pub valueBytes : List ℕ → List ℕ
+valueBytes v = objectBytes (objectOf v)
 
 -- ---- reading an image under a table
 unfoldable pub tableReading : List ℕ → List ℕ → Reading

@@ -1,11 +1,10 @@
 // The calls on one card: read, write, the shipped tables, the number put on a record, the places; on editions, records and images as lent bytes.
 // Any table, image, record and room may be lent, of whatever size: what has not its size is refused with a number.
 // The number is told even where the room is left: 20 for the room comes before all that is amiss with the card.
+mod filling;
 mod locating;
 mod renumbering;
 
-use card::Reading;
-use card::Record;
 use card::Refusal;
 use edition::Edition;
 pub use locating::places;
@@ -14,31 +13,8 @@ ghost use mathlib.Core.Path.{_≡_};
 ghost use mathlib.Core.Bool.{cond};
 ghost use lib.Dec.{eqb};
 ghost use Rattle.edition.specs.Tables.{terminal, issue};
-ghost use Rattle.card.specs.Content.{emptyRecord};
-ghost use Rattle.card.specs.Refusals.{refuse};
 ghost use Rattle.wire.specs.Answers.{packed};
-ghost use Rattle.calls_cards.specs.Calls.{tableReading, kvkRead, kvkReadRoom, kvkWrite, kvkWriteImage, kvkEdition, kvkEditionRoom};
-
-fn refused_reading(number: u8) -> Reading
-    ensures { λ r. ⌜ r ≡ record { refusal = refuse number 0 0; content = emptyRecord } ⌝ }
-{
-    Reading {
-        refusal: Refusal::new(number, 0, 0),
-        content: Record::empty(),
-    }
-}
-
-fn reading_of(table: &[u8], image: &[u8]) -> Reading
-    ensures { λ r. ⌜ r ≡ tableReading (now (table .entry)) (now (image .entry)) ⌝ }
-{
-    if image.len() != 256 {
-        return refused_reading(1);
-    }
-    if table.len() != 103 {
-        return refused_reading(2);
-    }
-    reader::read_lent(table, image)
-}
+ghost use Rattle.calls_cards.specs.Calls.{kvkRead, kvkReadRoom, kvkWrite, kvkWriteImage, kvkEdition, kvkEditionRoom};
 
 // Reads an image into a record of 479 bytes, under a table of 103 bytes.
 pub fn read(table: &[u8], image: &[u8], room: &mut [u8]) -> u64
@@ -48,9 +24,7 @@ pub fn read(table: &[u8], image: &[u8], room: &mut [u8]) -> u64
     if room.len() != 479 {
         return wire::pack(Refusal::new(20, 0, 0));
     }
-    let reading = reading_of(table, image);
-    wire_records::write_record(reading.content, room);
-    wire::pack(reading.refusal)
+    wire::pack(filling::fill(table, image, room))
 }
 
 fn written(table: &[u8], bytes: &[u8], image: &mut [u8]) -> Refusal

@@ -5,7 +5,8 @@ ghost use mathlib.Core.Path.{_≡_};
 ghost use Rattle.wire.specs.Answers.{packed};
 ghost use Rattle.calls_cards.specs.PlaceCalls.{tablePlaces, kvkPlaces, kvkPlacesRoom};
 
-fn places_of(table: &[u8], image: &[u8]) -> Places
+// 1 for the image's size, 2 for the table's.
+pub(crate) fn places_of(table: &[u8], image: &[u8]) -> Places
     ensures { λ r. ⌜ r ≡ tablePlaces (now (table .entry)) (now (image .entry)) ⌝ }
 {
     if image.len() != 256 {

@@ -3,9 +3,6 @@ use mathlib.Core.Path.{_≡_, refl, ap, _∙_}
 use borrow.Author.Tests.{eq-eqb, ne-eqb}
 use lib.ListN.{length}
 use Rattle.card.specs.Refusals.{gate}
-use Rattle.card.specs.declared.Reading.{Reading}
-use Rattle.wire_records.specs.Records.{recordBytes}
-use Rattle.wire_records.proofs.Sizes.{record-room}
 use Rattle.wire.specs.Answers.{packed}
 use Rattle.calls_cards.specs.Calls.{kvkRead, kvkReadRoom}
 use borrow.Author.Needs.{needs}
@@ -25,11 +22,8 @@ returns c =
     let other : length (s .args .room .now) ≡ 479 → ⊥ = c .before .before .if1 .taken in
     rw (ne-eqb _ _ other) (c .pack .ensures ∙ ap packed (c .before .new .ensures), refl)
 
-reading-of-requires : tie.Need-reading-of-requires
-reading-of-requires c κs = search needs
-
-write-record-requires : tie.Need-write-record-requires
-write-record-requires c κs = search needs
+fill-requires : tie.Need-fill-requires
+fill-requires c κs = search needs
 
 pack-requires-2 : tie.Need-pack-requires-2
 pack-requires-2 c κs = search needs
@@ -40,19 +34,10 @@ same-length c = search needs
 returns-2 : tie.Need-returns-2
 unfolding gate kvkRead kvkReadRoom
 returns-2 c =
-    let r = c .before .before .before .before .before in
-    rw (eq-eqb _ _ (r .before .if1 .left))
-    (c .pack2 .ensures ∙ ap (λ (x : Reading). packed (x .refusal)) (r .reading-of .ensures), c .before .before .before .write-record .ensures ∙ record-room _ _ (r .before .if1 .left) ∙ ap (λ (x : Reading). recordBytes (x .content)) (r .reading-of .ensures))
+    let f = c .before .before .before in
+    rw (eq-eqb _ _ (f .before .before .if1 .left)) (c .pack2 .ensures ∙ ap packed (f .fill .ensures .0), f .fill .ensures .1)
 
 pub read-spec : {M : Type 1} → statement M
 read-spec =
     tie.close
-    (tie.spec
-    new-requires
-    pack-requires
-    returns
-    reading-of-requires
-    write-record-requires
-    pack-requires-2
-    same-length
-    returns-2)
+    (tie.spec new-requires pack-requires returns fill-requires pack-requires-2 same-length returns-2)
