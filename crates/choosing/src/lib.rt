@@ -5,6 +5,7 @@ mod sums;
 
 use edition::Row;
 ghost use mathlib.Core.Path.{_≡_};
+ghost use mathlib.Core.Bool.{not};
 ghost use Prim.Native.Nat.{_<_, _≤_};
 ghost use Rattle.choosing.specs.Choices.{willDo, sizeOf, threeOf, fits, sizeIn, weight, chosen};
 
@@ -27,12 +28,18 @@ fn three_of(code: usize) -> Three
     }
 }
 
+fn may_lack(row: Row) -> bool
+    ensures { λ r. ⌜ r ≡ not (row .required) ⌝ }
+{
+    !row.required
+}
+
 // Whether a length will do for a row's object.
 fn will_do(row: Row, n: u8) -> bool
     ensures { λ r. ⌜ r ≡ willDo row n ⌝ }
 {
     if n == 0 {
-        return !row.required;
+        return may_lack(row);
     }
     edition::permits(row.lengths, n)
 }

@@ -4,6 +4,7 @@ use Rattle.nesting.proofs.nested.Reads as nested
 use Rattle.nesting.proofs.witness.Reads as witness
 use Rattle.report.proofs.report.Reads as report
 use Rattle.calls_tables.proofs.nested.Reads as calls-nested
+use Rattle.choosing.proofs.choose.Reads as choose
 use Rattle.example.proofs.example.Reads as example
 use Rattle.kvk.proofs.kvk_nested.Reads as kvk-nested
 
@@ -15,6 +16,9 @@ witness-once κs a z y e f p q = p ∙ sym q
 
 pub report-once : (κs : _) (a : _) (z y : _) (e f : _) → report.Post κs a z e → report.Post κs a y f → z ≡ y
 report-once κs a z y e f p q = p ∙ sym q
+
+pub choose-once : (κs : _) (a : _) (z y : _) (e f : _) → choose.Post κs a z e → choose.Post κs a y f → z ≡ y
+choose-once κs a z y e f p q = p ∙ sym q
 
 pub example-once : (κs : _) (a : _) (z y : _) (e f : _) → example.Post κs a z e → example.Post κs a y f → z ≡ y
 example-once κs a z y e f p q = p ∙ sym q

@@ -63,7 +63,7 @@ fn write_card(inner: Edition, outer: Edition, to_file: bool) -> u8
     let mut image = [0u8; 256];
     let refusal = writer::write(inner, example::example(inner, outer), &mut image);
     if refusal.number != 0 {
-        words::say(b"no card is written: what would show it does not fit a template, or its sums");
+        words::say(b"no card shows it: none that the inner permits fits a template and its sums");
         return words::REFUSED;
     }
     write_reading(b"inner: ", inner, &image);

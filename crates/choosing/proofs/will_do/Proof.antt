@@ -5,9 +5,12 @@ use Rattle.choosing.specs.Choices.{willDo}
 use Rattle.choosing.proofs.will_do.Statement.{statement}
 use Rattle.choosing.proofs.will_do.Tie as tie
 
+may-lack-requires : tie.Need-may-lack-requires
+may-lack-requires c κs = search needs
+
 returns : tie.Need-returns
 unfolding willDo
-returns c = rw (eq-eqb _ _ (c .before .if1 .taken))
+returns c = rw (eq-eqb _ _ (c .before .if1 .taken)) (c .may-lack .ensures)
 
 permits-requires : tie.Need-permits-requires
 permits-requires c κs = search needs
@@ -17,4 +20,4 @@ unfolding willDo
 returns-2 c = rw (ne-eqb _ _ (c .before .if1 .left)) (c .permits .ensures)
 
 pub will-do-spec : {M : Type 1} → statement M
-will-do-spec = tie.close (tie.spec returns permits-requires returns-2)
+will-do-spec = tie.close (tie.spec may-lack-requires returns permits-requires returns-2)
