@@ -251,6 +251,26 @@ static void wrong_frames(void)
     emit_count(&day, day.length);
 }
 
+/* 40: the trailer fits all but the length, with a byte more before it, or with one less, where the trailer's first stands for
+   the index's last. */
+static void wrong_lengths(void)
+{
+    struct day day;
+    size_t count;
+
+    for (count = 0; count <= 2; count++) {
+        make_day(&day, count, count);
+        memmove(trailer_in(&day) + 1, trailer_in(&day), TRAILER_SIZE);
+        day.length++;
+        emit_count(&day, day.length);
+        emit_position(&day, 0);
+        emit_find(&day, "123456");
+    }
+    make_day(&day, 1, 1);
+    memmove(trailer_in(&day) - 1, trailer_in(&day), TRAILER_SIZE);
+    emit_count(&day, day.length - 1);
+}
+
 /* 42: two entries swapped, or bytes changed so that the exclusive or stays or is set anew. */
 static void wrong_indexes(void)
 {
@@ -366,4 +386,5 @@ void day_cases(void)
     refused_images();
     added();
     built();
+    wrong_lengths();
 }

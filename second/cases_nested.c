@@ -216,6 +216,37 @@ static void random_pairs(void)
     }
 }
 
+/* The checksum's row optional, with another set, with another rule. */
+static void checksum_rows(void)
+{
+    static const struct rule_row rows[] = {
+        {0, RULE_RAW, BIT(1)}, {1, RULE_RAW, BIT(2)}, {1, RULE_RAW, BIT(1) | BIT(2)}, {1, RULE_TEXT, BIT(1)}
+    };
+    struct edition spoiled = wide;
+    size_t i;
+
+    for (i = 0; i < COUNT(rows); i++) {
+        row_to_table(spoiled.table, ROW_8E, rows[i]);
+        emit_pair(&spoiled, &wide);
+        emit_pair(&wide, &spoiled);
+    }
+}
+
+/* Each length alone, where the rules decide. */
+static void single_lengths(void)
+{
+    struct edition texts = wide, digits = wide;
+    unsigned length;
+
+    for (length = 1; length <= VALUE_MAX; length++) {
+        struct rule_row text = {0, RULE_TEXT, BIT(length)}, digit = {0, RULE_DIGITS, BIT(length)};
+        row_to_table(texts.table, ROW_82, text);
+        row_to_table(digits.table, ROW_82, digit);
+        emit_pair(&texts, &digits);
+        emit_pair(&digits, &texts);
+    }
+}
+
 void nested_cases(void)
 {
     known_editions();
@@ -225,4 +256,6 @@ void nested_cases(void)
     not_well_formed();
     no_numbers();
     random_pairs();
+    checksum_rows();
+    single_lengths();
 }

@@ -244,6 +244,24 @@ static void two_last_bytes(void)
     emit_way(&way);
 }
 
+/* Another card but for its tag: with the tag back before the last byte it would be that card. */
+static void tag_before_last_byte(void)
+{
+    uint8_t old_record[RECORD_SIZE], new_record[RECORD_SIZE];
+    struct way way;
+
+    record_full(old_record);
+    old_record[0] = 0x82;
+    old_record[RECORD_LAST] = 0x00;
+    memcpy(new_record, old_record, RECORD_SIZE);
+    new_record[RECORD_LAST] = 0xFF;
+    cards_of(&way, &terminal, old_record, new_record);
+    way.old_image[30] = 0x61;
+    own_plans(&way);
+    add_direct(&way);
+    emit_way(&way);
+}
+
 /* A step past address 255 is no, however it looks. */
 static void steps_past_255(void)
 {
@@ -321,4 +339,5 @@ void plan_cases(void)
     steps_past_255();
     many_steps();
     order_of_refusals();
+    tag_before_last_byte();
 }

@@ -308,8 +308,8 @@ static void largest_listings(void)
     emit_listing(&listing, 4096);
 }
 
-/* One plain object of this length, with so many bytes of values. */
-static void emit_plain(size_t length, size_t values)
+/* One plain object of this length, with so many bytes of values, each the same. */
+static void emit_plain(size_t length, size_t values, uint8_t value)
 {
     static struct listing listing;
 
@@ -318,22 +318,26 @@ static void emit_plain(size_t length, size_t values)
     listing.words[1] = 1;
     listing.words[2] = 0;
     listing.words[3] = (uint16_t)length;
-    memset(listing.values, 0x2A, values);
+    memset(listing.values, value, values);
     listing.length = values;
     emit_listing(&listing, TREE_MAX);
 }
 
-/* Both sides of each edge of the length field, and values of another number where the bytes are as many as there may be. */
+/* Both sides of each edge of the length field, and values of another number where the bytes are as many as there may be;
+   values of 00, which are not filled up where they are too few. */
 void written_lengths(void)
 {
     static const size_t lengths[] = {126, 127, 128, 129, 254, 255, 256, 257, 4090, 4091, 4092, 4093};
     size_t i;
 
     for (i = 0; i < COUNT(lengths); i++) {
-        emit_plain(lengths[i], lengths[i]);
-        emit_plain(lengths[i], lengths[i] + 1);
-        emit_plain(lengths[i], lengths[i] - 1);
+        emit_plain(lengths[i], lengths[i], 0x2A);
+        emit_plain(lengths[i], lengths[i] + 1, 0x2A);
+        emit_plain(lengths[i], lengths[i] - 1, 0x2A);
     }
+    emit_plain(TREE_MAX - 4, TREE_MAX - 4, 0x00);
+    emit_plain(TREE_MAX - 4, TREE_MAX - 5, 0x00);
+    emit_plain(TREE_MAX - 5, TREE_MAX - 6, 0x00);
 }
 
 void tree_cases(void)

@@ -110,6 +110,29 @@ static void make_write_call(struct call *call)
     set_room(&call->room, room + chance(3));
 }
 
+/* As many objects as there may be, one less and one more, each of two bytes. */
+static size_t count_writings(void)
+{
+    return 3;
+}
+
+static void make_fixed_writing(struct call *call, size_t which)
+{
+    static uint16_t words[TREE_WORDS_MAX + TREE_ENTRY];
+    size_t objects = TREE_MAX / 2 - 1 + which;
+    size_t i;
+
+    for (i = 0; i < objects; i++) {
+        words[TREE_ENTRY * i] = 0x01;
+        words[TREE_ENTRY * i + 1] = 1;
+        words[TREE_ENTRY * i + 2] = (uint16_t)(2 * i);
+        words[TREE_ENTRY * i + 3] = 0;
+    }
+    set_bytes(&call->lent[0], (const uint8_t *)words, objects * TREE_ENTRY * sizeof words[0]);
+    call->lent[1].length = 0;
+    set_room(&call->room, TREE_MAX);
+}
+
 static uint64_t library_tree(const struct lent *lent)
 {
     return kvk_tree(lent->at[0], lent->length[0], (uint16_t *)(void *)lent->room, lent->room_length / sizeof(uint16_t));
@@ -139,5 +162,5 @@ const struct comparison trees = {
 };
 const struct comparison tree_writings = {
     "tree write", {{"listing", sizeof(uint16_t)}, {"values", 1}, {NULL, 0}}, 1, 2, library_tree_write,
-    tree_written_by_second, make_write_call, NULL, NULL, NULL
+    tree_written_by_second, make_write_call, NULL, count_writings, make_fixed_writing
 };
