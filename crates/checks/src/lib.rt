@@ -80,8 +80,10 @@ fn check_under(known: Refusal, edition: Edition, content: Record, size: usize) -
         return known;
     }
     let numbers = check_numbers(edition.number, content.number);
-    let rest = refuse_content(edition, content);
-    chain::first_of(numbers, rest)
+    if numbers.number != 0 {
+        return numbers;
+    }
+    refuse_content(edition, content)
 }
 
 // The first refusal of a record, in a buffer of `size` bytes.

@@ -46,7 +46,6 @@ use Rattle.reader.proofs.places.Reads as places
 use Rattle.reader.proofs.read.Reads as read
 use Rattle.shipped_tables.proofs.lent_edition.Reads as lent-edition
 use Rattle.reader.proofs.places_lent.Reads as places-lent
-use Rattle.reader.proofs.read_lent.Reads as read-lent
 use Rattle.checks.proofs.check.Reads as check
 use Rattle.checks.proofs.check_lent.Reads as check-lent
 use Rattle.checks.proofs.check_content.Reads as check-content
@@ -156,9 +155,6 @@ lent-edition-once κs a z y e f p q = p ∙ sym q
 
 pub places-lent-once : (κs : _) (a : _) (z y : _) (e f : _) → places-lent.Post κs a z e → places-lent.Post κs a y f → z ≡ y
 places-lent-once κs a z y e f p q = p ∙ sym q
-
-pub read-lent-once : (κs : _) (a : _) (z y : _) (e f : _) → read-lent.Post κs a z e → read-lent.Post κs a y f → z ≡ y
-read-lent-once κs a z y e f p q = p ∙ sym q
 
 pub check-once : (κs : _) (a : _) (z y : _) (e f : _) → check.Post κs a z e → check.Post κs a y f → z ≡ y
 check-once κs a z y e f p q = p ∙ sym q

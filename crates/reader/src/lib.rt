@@ -55,12 +55,18 @@ fn places_under(known: Refusal, edition: Edition, image: &[u8]) -> Places
     settle(image, end, table)
 }
 
-// The same as read, under an edition whose refusal is known.
-fn read_under(known: Refusal, edition: Edition, image: &[u8]) -> Reading
-    requires { ⌜ known ≡ badRow (formedOf edition) ⌝ }
+// Where the values of an image stand, or its refusal.
+pub fn places(edition: Edition, image: &[u8]) -> Places
+    ensures { λ r. ⌜ r ≡ placesIn edition (now (image .entry)) ⌝ }
+{
+    places_under(card::refuse_edition(edition), edition, image)
+}
+
+// Reads an image: its record with the edition's number, or the refusal and the empty record.
+pub fn read(edition: Edition, image: &[u8]) -> Reading
     ensures { λ r. ⌜ r ≡ reading edition (now (image .entry)) ⌝ }
 {
-    let table = places_under(known, edition, image);
+    let table = places(edition, image);
     let refusal = table.refusal;
     if refusal.number != 0 {
         return Reading {
@@ -76,32 +82,10 @@ fn read_under(known: Refusal, edition: Edition, image: &[u8]) -> Reading
     }
 }
 
-// Where the values of an image stand, or its refusal.
-pub fn places(edition: Edition, image: &[u8]) -> Places
-    ensures { λ r. ⌜ r ≡ placesIn edition (now (image .entry)) ⌝ }
-{
-    places_under(card::refuse_edition(edition), edition, image)
-}
-
-// Reads an image: its record with the edition's number, or the refusal and the empty record.
-pub fn read(edition: Edition, image: &[u8]) -> Reading
-    ensures { λ r. ⌜ r ≡ reading edition (now (image .entry)) ⌝ }
-{
-    read_under(card::refuse_edition(edition), edition, image)
-}
-
 // The same as places, under the edition of a lent table.
 pub fn places_lent(table: &[u8], image: &[u8]) -> Places
     ensures { λ r. ⌜ r ≡ placesIn (lentEdition (now (table .entry))) (now (image .entry)) ⌝ }
 {
     let lent = shipped_tables::lent_edition(table);
     places_under(lent.refusal, lent.edition, image)
-}
-
-// The same as read, under the edition of a lent table.
-pub fn read_lent(table: &[u8], image: &[u8]) -> Reading
-    ensures { λ r. ⌜ r ≡ reading (lentEdition (now (table .entry))) (now (image .entry)) ⌝ }
-{
-    let lent = shipped_tables::lent_edition(table);
-    read_under(lent.refusal, lent.edition, image)
 }

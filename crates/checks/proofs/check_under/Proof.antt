@@ -35,22 +35,28 @@ returns-2 c = sym (chained (c .before .before) ∙ or-stop _ _ (c .if2 .taken))
 check-numbers-requires : tie.Need-check-numbers-requires
 check-numbers-requires c κs = search needs
 
+returns-3 : tie.Need-returns-3
+returns-3 c =
+    let n = c .before .before in
+    let l = n .before in
+    let a = l .before .before .before .args in
+    let rest = contentRefusal (a .edition) (contentOf (a .content)) in
+    sym (or-stop (n .check-numbers .result) rest (c .if3 .taken)) ∙ ap (λ (x : Refusal). orElse x rest) (n .check-numbers .ensures)
+    ∙ sym (chained (l .before .before) ∙ or-pass _ _ (l .if2 .left))
+
 refuse-content-requires : tie.Need-refuse-content-requires
 refuse-content-requires c κs =
-    let l = c .before in
+    let l = c .before .before .before in
     let s = l .before .before .before in
     table-well (formedOf (s .args .edition)) (ap (λ (r : Refusal). r .number) (sym (s .pre)) ∙ l .if2 .left)
 
-first-of-requires : tie.Need-first-of-requires
-first-of-requires c κs = search needs
-
-returns-3 : tie.Need-returns-3
-returns-3 c =
-    let r = c .before in
-    let n = r .before in
+returns-4 : tie.Need-returns-4
+returns-4 c =
+    let i = c .before in
+    let n = i .before .before in
     let l = n .before in
-    c .first-of .ensures ∙ ap₂ orElse (n .check-numbers .ensures) (r .refuse-content .ensures)
-    ∙ sym (chained (l .before .before) ∙ or-pass _ _ (l .if2 .left))
+    let pass = or-pass (n .check-numbers .result) (c .refuse-content .result) (i .if3 .left) in
+    sym pass ∙ ap₂ orElse (n .check-numbers .ensures) (c .refuse-content .ensures) ∙ sym (chained (l .before .before) ∙ or-pass _ _ (l .if2 .left))
 
 pub check-under-spec : {M : Type 1} → statement M
 check-under-spec =
@@ -60,6 +66,6 @@ check-under-spec =
     returns
     returns-2
     check-numbers-requires
+    returns-3
     refuse-content-requires
-    first-of-requires
-    returns-3)
+    returns-4)
