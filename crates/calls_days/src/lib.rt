@@ -21,21 +21,21 @@ fn packed_day(answer: Answer) -> u64
 pub fn day_count(file: &[u8]) -> u64
     ensures { λ r. ⌜ r ≡ dayPacked (countAnswer (now (file .entry))) ⌝ }
 {
-    packed_day(day::count(file))
+    packed_day(day_read::count(file))
 }
 
 // Where the image at a position starts in a file.
 pub fn day_image(file: &[u8], position: u64) -> u64
     ensures { λ r. ⌜ r ≡ dayPacked (imageAnswer (now (file .entry)) position) ⌝ }
 {
-    packed_day(day::image_start(file, position as usize))
+    packed_day(day_read::image_start(file, position as usize))
 }
 
 // The position of the first card with a number.
 pub fn day_find(file: &[u8], number: &[u8]) -> u64
     ensures { λ r. ⌜ r ≡ dayPacked (findAnswer (now (file .entry)) (now (number .entry))) ⌝ }
 {
-    packed_day(day::find(file, number))
+    packed_day(day_find::find(file, number))
 }
 
 // Fills the start of a room with a file and one card more at its end; the value is the new file's length.
@@ -43,7 +43,7 @@ pub fn day_add(file: &[u8], card: &[u8], room: &mut [u8]) -> u64
     ensures { λ r. ⌜ r ≡ dayPacked (addAnswer (now (file .entry)) (now (card .entry)) (now (room .entry))) ⌝ }
     ensures { λ _. ⌜ now (room .exit) ≡ addRoom (now (file .entry)) (now (card .entry)) (now (room .entry)) ⌝ }
 {
-    packed_day(day::add(file, card, room))
+    packed_day(day_add::add(file, card, room))
 }
 
 // Fills the start of a room with the file of some images; the value is its length.
@@ -51,5 +51,5 @@ pub fn day_build(images: &[u8], room: &mut [u8]) -> u64
     ensures { λ r. ⌜ r ≡ dayPacked (buildAnswer (now (images .entry)) (now (room .entry))) ⌝ }
     ensures { λ _. ⌜ now (room .exit) ≡ buildRoom (now (images .entry)) (now (room .entry)) ⌝ }
 {
-    packed_day(day::build(images, room))
+    packed_day(day_build::build(images, room))
 }

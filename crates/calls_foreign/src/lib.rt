@@ -19,7 +19,7 @@ fn pack_length(field: ToldLength) -> u64
 pub fn length(bytes: &[u8]) -> u64
     ensures { λ r. ⌜ r ≡ packedLength (lengthTold (lengthRead (now (bytes .entry)))) ⌝ }
 {
-    pack_length(lengths::told(lengths::read_length(bytes)))
+    pack_length(lengths_read::told(lengths_read::read_length(bytes)))
 }
 
 fn pack_tree(answer: TreeAnswer) -> u64
@@ -34,7 +34,7 @@ pub fn tree(bytes: &[u8], room: &mut [u16]) -> u64
     ensures { λ r. ⌜ r ≡ packedTree (treeAnswer (now (bytes .entry)) (now (room .entry))) ⌝ }
     ensures { λ _. ⌜ now (room .exit) ≡ treeRoom (now (bytes .entry)) (now (room .entry)) ⌝ }
 {
-    pack_tree(tree::list_tree(bytes, room))
+    pack_tree(tree_list::list_tree(bytes, room))
 }
 
 fn pack_back(answer: BackAnswer) -> u64
@@ -47,5 +47,5 @@ fn pack_back(answer: BackAnswer) -> u64
 pub fn tree_write(words: &[u16], values: &[u8], room: &mut [u8]) -> u64
     ensures { λ r. ⌜ PackedBack (now (words .entry)) (now (values .entry)) (now (room .entry)) r (now (room .exit)) ⌝ }
 {
-    pack_back(tree_back::write_back(words, values, room))
+    pack_back(tree_write::write_back(words, values, room))
 }

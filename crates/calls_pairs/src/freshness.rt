@@ -28,7 +28,7 @@ fn compared(table: &[u8], first: &[u8], second: &[u8]) -> Fresher
         }
         return compare_none(2);
     }
-    fresher::compare(wire_tables::edition_of(table), first, second)
+    fresher_cards::compare(wire_tables::edition_of(table), first, second)
 }
 
 // Fills a room of 8 bytes: the card, 1 or 2; start and length of its family name; 0; the months, signed.
@@ -40,6 +40,6 @@ pub fn fresher(table: &[u8], first: &[u8], second: &[u8], room: &mut [u8]) -> u6
         return wire::pack(Refusal::new(20, 0, 0));
     }
     let fresher = compared(table, first, second);
-    fresher::write_fresher(fresher, room);
+    fresher_bytes::write_fresher(fresher, room);
     wire::pack(fresher.refusal)
 }

@@ -10,7 +10,7 @@ fn pack_nesting(answer: Nesting) -> u64
     ensures { λ r. ⌜ r ≡ packedNesting answer ⌝ }
 {
     let clause = answer.clause;
-    let shown = Refusal::new(0, clause as usize, edition::tag_of(answer.row));
+    let shown = Refusal::new(0, clause as usize, edition_tags::tag_of(answer.row));
     wire::pack_value(shown, (clause == 0) as usize)
 }
 
@@ -18,7 +18,7 @@ fn pack_nesting(answer: Nesting) -> u64
 pub fn nested(inner: &[u8], outer: &[u8]) -> u64
     ensures { λ r. ⌜ r ≡ packedNesting (tablesNesting (now (inner .entry)) (now (outer .entry))) ⌝ }
 {
-    let editions_nested = nesting::nested(
+    let editions_nested = nesting_answer::nested(
         wire_tables::edition_of(inner),
         wire_tables::edition_of(outer),
     );

@@ -9,7 +9,7 @@ use lib.Seq.{drop-drop, drop-cons, drop-append-add, drop-append-seam, getD-appen
 use lib.Dec.{leb, eqb}
 use borrow.Author.Tests.{eqb-true, le-leb, lt-leb, leb-true, leb-false}
 use Rattle.ground.proofs.Lists.{and-left, and-right}
-use Rattle.card.specs.declared.fields.LengthField.the-variants.{One, Two, Other}
+use Rattle.card.specs.declared.LengthField.the-variants.{One, Two, Other}
 use Rattle.lengths.specs.declared.Length.the-variants as L
 use Rattle.lengths.specs.Lengths.{lengthField, lengthRead, lengthTold}
 use Rattle.card.specs.Fields.{secondByte, lengthAt, fieldTold}

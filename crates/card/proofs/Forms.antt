@@ -11,8 +11,8 @@ use Rattle.lengths.specs.declared.ToldLength.{ToldLength}
 use Rattle.lengths.specs.declared.Length.the-variants.{Read, Long}
 use Rattle.lengths.specs.declared.Length.the-variants as L
 use Rattle.lengths.specs.Lengths.{behind81, behind82, lengthRead, lengthTold}
-use Rattle.card.specs.declared.fields.LengthField.{LengthField}
-use Rattle.card.specs.declared.fields.LengthField.the-variants.{One, Two, Other, Cut}
+use Rattle.card.specs.declared.LengthField.{LengthField}
+use Rattle.card.specs.declared.LengthField.the-variants.{One, Two, Other, Cut}
 use Rattle.card.specs.Fields.{secondByte, lengthAt, ToldField, fieldTold, unread, taken}
 
 pub unread-none : (bs : List ℕ) → length bs < 1 → unread bs ≡ Cut

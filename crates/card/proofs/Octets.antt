@@ -12,7 +12,7 @@ use Rattle.rules.specs.declared.Rule.the-variants.{Digits, Text, Lead, Code, Bi
 use Rattle.edition.specs.declared.Row.{Row}
 use Rattle.edition.specs.declared.Edition.{Edition}
 use Rattle.edition.specs.declared.Formed.the-variants.{Well}
-use Rattle.rules.specs.declared.values.Verdict.the-variants.{Takes}
+use Rattle.rules.specs.declared.Verdict.the-variants.{Takes}
 use Rattle.ground.specs.Lists.{among}
 use Rattle.rules.specs.Values.{between, isDigit, isText, takes, judged}
 use Rattle.edition.specs.Rows.{tags, setFormed, byRule, rowFormed, formedFrom}

@@ -10,8 +10,8 @@ use lib.Seq.{take-append-seam, drop-append-seam, length-take-le}
 use lib.Dec.{leb, eqb}
 use borrow.Author.Tests.{eqb-true, eq-eqb, ne-eqb, le-leb, leb-true, not-true}
 use Rattle.edition.specs.declared.Row.{Row}
-use Rattle.rules.specs.declared.values.Verdict.{Verdict}
-use Rattle.rules.specs.declared.values.Verdict.the-variants.{Takes, Outside, Breaks}
+use Rattle.rules.specs.declared.Verdict.{Verdict}
+use Rattle.rules.specs.declared.Verdict.the-variants.{Takes, Outside, Breaks}
 use Rattle.ground.specs.Lists.{among, distinct}
 use Rattle.edition.specs.Sets.{permitted}
 use Rattle.edition.proofs.Sets.{never-0}

@@ -4,8 +4,8 @@ use mathlib.Core.Bool.{cond}
 use mathlib.Core.List.{List, [], _∷_}
 use lib.Dec.{leb, eqb}
 use Rattle.lengths.specs.declared.ToldLength.{ToldLength}
-use Rattle.card.specs.declared.fields.LengthField.{LengthField}
-use Rattle.card.specs.declared.fields.LengthField.the-variants.{One, Two, Other, Cut}
+use Rattle.card.specs.declared.LengthField.{LengthField}
+use Rattle.card.specs.declared.LengthField.the-variants.{One, Two, Other, Cut}
 
 -- which form stands at the head of some bytes
 abbrev pub secondByte : List ℕ → LengthField

@@ -6,8 +6,8 @@ use lib.Dec.{leb, eqb}
 use lib.ListN.{length, take, drop, getD}
 use Rattle.ground.specs.Lists.{agree}
 use Rattle.lengths.specs.declared.ToldLength.{ToldLength}
-use Rattle.card.specs.declared.fields.LengthField.{LengthField}
-use Rattle.card.specs.declared.fields.LengthField.the-variants.{One, Two, Other, Cut}
+use Rattle.card.specs.declared.LengthField.{LengthField}
+use Rattle.card.specs.declared.LengthField.the-variants.{One, Two, Other, Cut}
 use Rattle.lengths.specs.Lengths.{lengthField}
 use Rattle.card.specs.Fields.{lengthAt, fieldTold}
 use Rattle.card.specs.Layout.{head, spaces, filler}

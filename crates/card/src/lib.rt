@@ -1,21 +1,7 @@
 // What a card is: record, refusal and places; the rule book stands in specs/, and here the pieces that reader and writer share.
 // Each piece answers for the part that it is lent; the order of the refusals is reader's and writer's.
 // A record may claim a length past the 28 bytes that it has: its value then goes on with zeros, and no row permits it.
-mod editions;
-mod ends;
-mod fields;
-mod filler;
-mod sum;
-mod sums;
 
-pub use editions::refuse_edition;
-pub use ends::allows_first;
-pub use ends::allows_last;
-pub use fields::LengthField;
-pub use fields::read_length;
-pub use filler::count_spaces;
-pub use sum::checksum;
-pub use sums::check_sums;
 ghost use mathlib.Core.Path.{_≡_};
 ghost use Rattle.card.specs.Content.{emptyRecord};
 ghost use Rattle.card.specs.Refusals.{refuse, refuseLength, none};
@@ -47,6 +33,18 @@ pub struct Refusal {
     pub tag: u8,
     pub shortest: u8,
     pub longest: u8,
+}
+
+// What stands where a length is due. The range of the length is the caller's to judge.
+pub enum LengthField {
+    // One byte, up to 127.
+    One(u8),
+    // '81' and one byte.
+    Two(u8),
+    // Another first byte.
+    Other(u8),
+    // No byte, or nothing behind '81'.
+    Cut,
 }
 
 // What a reading gives back.
@@ -115,8 +113,8 @@ impl Refusal {
             number: 7,
             place,
             tag,
-            shortest: edition::shortest(lengths),
-            longest: edition::longest(lengths),
+            shortest: edition_lengths::shortest(lengths),
+            longest: edition_lengths::longest(lengths),
         }
     }
 

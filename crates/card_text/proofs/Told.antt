@@ -17,7 +17,7 @@ use Rattle.letters.specs.Turning.{code, codedAnswer}
 use Rattle.card.specs.declared.Object.{Object}
 use Rattle.card.specs.declared.Record.{Record}
 use Rattle.card_lines.specs.Keys.{keyOf, valueIn}
-use Rattle.card_text.specs.declared.checks.Fault.{Fault}
+use Rattle.card_text.specs.declared.Fault.{Fault}
 use Rattle.card_text.specs.Entries.{lineOf, valueOf}
 use Rattle.card_text.specs.Hex.{digitValue, isHex, byteAt}
 use Rattle.card_text.specs.Faults.{coded, lettersTaken, digitsDue, faultOfValue, faultOfLine, faultAt}

@@ -9,7 +9,7 @@ use Rattle.letters.specs.Letters.{utf8}
 use Rattle.letters.specs.Turning.{code}
 use Rattle.card_lines.specs.Lines.{lines}
 use Rattle.card_lines.specs.Keys.{keyOf, valueIn}
-use Rattle.card_text.specs.declared.checks.Fault.{Fault}
+use Rattle.card_text.specs.declared.Fault.{Fault}
 use Rattle.card_text.specs.Entries.{lineOf}
 use Rattle.card_text.specs.Hex.{isHex}
 

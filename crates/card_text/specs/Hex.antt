@@ -6,12 +6,15 @@ use lib.Dec.{eqb, leb, ltb}
 use lib.ListN.{length, getD}
 use Rattle.ground.specs.Lists.{leading}
 
+-- what a letter stands for, as a digit; 16 where it is none
+unfoldable pub letterValue : ℕ → ℕ
+letterValue d =
+    cond (ltb d 0x41) 16 (cond (leb d 0x46) (d - 0x41 + 10)
+    (cond (ltb d 0x61) 16 (cond (leb d 0x66) (d - 0x61 + 10) 16)))
+
 -- what a digit stands for; 16 where it is none
 unfoldable pub digitValue : ℕ → ℕ
-digitValue d =
-    cond (ltb d 0x30) 16 (cond (leb d 0x39) (d - 0x30)
-    (cond (ltb d 0x41) 16 (cond (leb d 0x46) (d - 0x41 + 10)
-    (cond (ltb d 0x61) 16 (cond (leb d 0x66) (d - 0x61 + 10) 16)))))
+digitValue d = cond (ltb d 0x30) 16 (cond (leb d 0x39) (d - 0x30) (letterValue d))
 
 abbrev pub isDigit : ℕ → Bool
 isDigit d = ltb (digitValue d) 16

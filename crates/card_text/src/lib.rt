@@ -1,13 +1,12 @@
-// A card as text that people write: a line for each object, by its name or tag, and the record that the lines make.
-// Any text may be lent; where it comes from, and whether an edition writes the record, is the caller's.
-// A text with a fault makes a record all the same: what is wrong with it is told by `check`, and no line can set the checksum.
-mod checks;
-mod entries;
-mod hex;
-mod records;
+// A card as text that people write: which line speaks of what, what is wrong with a text, and the record that it makes, all by definition.
+// No function stands here: `text_entries`, `text_checks` and `text_records` do what is said, and promise it.
+// A text with a fault makes a record all the same, and no line can set the checksum.
 
-pub use checks::Fault;
-pub use checks::check;
-pub use entries::line_of;
-pub use entries::value;
-pub use records::record_of;
+// The first line that is wrong, counted from 1, what it speaks of, and why: 1 no name, 2 an earlier line speaks of it, 3 a letter that DIN 66003
+// lacks, of which `place` is the first byte within the value, 4 not the hex digits that are due, 5 the checksum, which is computed. Number 0: nothing.
+pub struct Fault {
+    pub number: u8,
+    pub line: usize,
+    pub key: usize,
+    pub place: usize,
+}

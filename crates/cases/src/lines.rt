@@ -11,7 +11,7 @@ pub fn write_hex(bytes: &[u8]) {
     let mut i = 0;
     while i < bytes.len() {
         let mut digits = [0u8; 2];
-        ground::put_hex(&mut digits, 0, bytes[i]);
+        ground_digits::put_hex(&mut digits, 0, bytes[i]);
         io::write_all(STDOUT_FILENO, &digits);
         i += 1;
     }
@@ -100,7 +100,7 @@ fn write_slots(content: &[u8])
         k += 1;
     }
     write_number(behind);
-    write_number(ground::byte_at(content, 478) as u64);
+    write_number(ground_parts::byte_at(content, 478) as u64);
 }
 
 // Writes a record's content, how many bytes behind its values are not 0, and its number.

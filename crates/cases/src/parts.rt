@@ -13,7 +13,7 @@ pub fn get(room: &mut [u8]) -> bool {
 
 // Fills all of a room with one byte.
 pub fn fill(room: &mut [u8], byte: u8) {
-    ground::fill(room, 0, room.len(), byte);
+    ground_room::fill(room, 0, room.len(), byte);
 }
 
 pub fn is_filled(room: &[u8], byte: u8) -> bool {
@@ -36,8 +36,9 @@ fn number_of(bytes: &[u8]) -> usize
 
 // The word that four bytes write, high byte first.
 pub fn word_of(bytes: &[u8]) -> u32 {
-    let high = ground::byte_at(bytes, 0) as u32 * 256 + ground::byte_at(bytes, 1) as u32;
-    let low = ground::byte_at(bytes, 2) as u32 * 256 + ground::byte_at(bytes, 3) as u32;
+    let high = ground_parts::byte_at(bytes, 0) as u32 * 256
+        + ground_parts::byte_at(bytes, 1) as u32;
+    let low = ground_parts::byte_at(bytes, 2) as u32 * 256 + ground_parts::byte_at(bytes, 3) as u32;
     high * 65536 + low
 }
 

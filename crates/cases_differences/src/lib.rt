@@ -9,7 +9,7 @@ fn is_rebuilt(table: &[u8], first: &[u8], entries: &[u32], second: &[u8]) -> boo
     let other = reader::read(edition, second).content;
     let mut room = [0u8; 256];
     rebuilding::rebuild(edition, first, entries, other, &mut room);
-    ground::is_same(&room, second)
+    ground_parts::is_same(&room, second)
 }
 
 // What it is, tag and place, in two hex digits each.

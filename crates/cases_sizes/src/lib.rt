@@ -49,7 +49,7 @@ fn call_with(call: usize, table: &[u8], room: &mut [u8]) -> u64 {
 fn put_terminal(table: &mut [u8]) {
     let mut terminal = [0u8; 103];
     kvk::kvk_edition(1, &mut terminal);
-    ground::put(table, 0, &terminal);
+    ground_room::put(table, 0, &terminal);
 }
 
 // Writes the answer and the room.

@@ -7,7 +7,7 @@ fn sum_before(image: &[u8], place: usize) -> u8 {
     let mut sum: u8 = 0;
     let mut i: usize = 30;
     while i < place {
-        sum ^= ground::byte_at(image, i);
+        sum ^= ground_parts::byte_at(image, i);
         i += 1;
     }
     sum
@@ -17,13 +17,13 @@ fn sum_before(image: &[u8], place: usize) -> u8 {
 fn mend(image: &mut [u8], place: usize) {
     if place > 30 {
         let sum = sum_before(image, place);
-        ground::put_byte(image, place, sum);
+        ground_room::put_byte(image, place, sum);
     }
 }
 
 // Puts a value at the address and sets the checksum right, unless it is the one that is swept.
 fn put_value(image: &mut [u8], address: usize, value: u8, checksum_at: usize) {
-    ground::put_byte(image, address, value);
+    ground_room::put_byte(image, address, value);
     if address != checksum_at {
         mend(image, checksum_at);
     }
@@ -31,7 +31,7 @@ fn put_value(image: &mut [u8], address: usize, value: u8, checksum_at: usize) {
 
 // Readings with each value at the address; the image comes back as it was but for its checksum.
 fn sweep_address(table: &[u8], image: &mut [u8], address: usize, checksum_at: usize) -> u64 {
-    let before = ground::byte_at(image, address);
+    let before = ground_parts::byte_at(image, address);
     let mut digest: u64 = 1;
     let mut value: usize = 0;
     while value < 256 {
@@ -39,7 +39,7 @@ fn sweep_address(table: &[u8], image: &mut [u8], address: usize, checksum_at: us
         digest = fold_reading(digest, table, image);
         value += 1;
     }
-    ground::put_byte(image, address, before);
+    ground_room::put_byte(image, address, before);
     mend(image, checksum_at);
     digest
 }
@@ -57,7 +57,7 @@ fn write_sweep(table: &[u8], image: &mut [u8], from: usize, until: usize, checks
 fn write_pair_sweep(table: &[u8], image: &mut [u8], first: usize, then: usize, checksum_at: usize) {
     let mut value: usize = 0;
     while value < 256 && first < image.len() && then < image.len() {
-        ground::put_byte(image, first, value as u8);
+        ground_room::put_byte(image, first, value as u8);
         cases::write_number(sweep_address(table, image, then, checksum_at));
         value += 1;
     }

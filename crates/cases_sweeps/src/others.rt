@@ -13,29 +13,29 @@ fn fold_writing(digest: u64, table: &[u8], record: &[u8]) -> u64 {
 
 // Writings with each value at the index; the record comes back as it was.
 fn sweep_index(table: &[u8], record: &mut [u8], index: usize) -> u64 {
-    let before = ground::byte_at(record, index);
+    let before = ground_parts::byte_at(record, index);
     let mut digest: u64 = 1;
     let mut value: usize = 0;
     while value < 256 {
-        ground::put_byte(record, index, value as u8);
+        ground_room::put_byte(record, index, value as u8);
         digest = fold_writing(digest, table, record);
         value += 1;
     }
-    ground::put_byte(record, index, before);
+    ground_room::put_byte(record, index, before);
     digest
 }
 
 // Readings with each value at the index of the table; the table comes back as it was.
 fn sweep_table(table: &mut [u8], index: usize, image: &[u8]) -> u64 {
-    let before = ground::byte_at(table, index);
+    let before = ground_parts::byte_at(table, index);
     let mut digest: u64 = 1;
     let mut value: usize = 0;
     while value < 256 {
-        ground::put_byte(table, index, value as u8);
+        ground_room::put_byte(table, index, value as u8);
         digest = fold_reading(digest, table, image);
         value += 1;
     }
-    ground::put_byte(table, index, before);
+    ground_room::put_byte(table, index, before);
     digest
 }
 

@@ -95,8 +95,8 @@ fn words_of(bytes: &[u8]) -> [u16; 2100] {
     let mut words = [0u16; 2100];
     let mut i: usize = 0;
     while i < 2100 {
-        words[i] = ground::byte_at(bytes, i * 2) as u16 * 256
-            + ground::byte_at(bytes, i * 2 + 1) as u16;
+        words[i] = ground_parts::byte_at(bytes, i * 2) as u16 * 256
+            + ground_parts::byte_at(bytes, i * 2 + 1) as u16;
         i += 1;
     }
     words

@@ -1,4 +1,3 @@
 -- The laws of the definitions.
-pub mod Items
 pub mod Faults
 pub mod Order

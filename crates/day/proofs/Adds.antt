@@ -10,12 +10,12 @@ use lib.ListN.{length, take, length-append}
 use lib.Seq.{sets}
 use Rattle.ground.specs.Pieces.{joined}
 use Rattle.card.specs.declared.Refusal.{Refusal}
-use Rattle.card.specs.Refusals.{refuse, none, gate}
+use Rattle.card.specs.Refusals.{refuse, none, gate, orElse}
 use Rattle.day_index.specs.Order.{flat}
 use Rattle.day_index.proofs.Parts.{flat-append, flat-pieces}
-use Rattle.day_cards.specs.Cards.{isCard}
+use Rattle.day.specs.Cards.{isCard}
 use Rattle.day.specs.Files.{Cards, no-cards, one-card, fileOf, trailer, indexBytes, sizeOf, mostCards, countIn, imagesIn, fileRefusal}
-use Rattle.day.specs.Calls.{answered, addRefusal, addAnswer, addRoom, roomAfter}
+use Rattle.day.specs.Calls.{answered, moreRefusal, addRefusal, addAnswer, addRoom, roomAfter}
 use Rattle.day.proofs.Opens.{or-stop, or-on, gate-on, gate-off, Opened, opened}
 use Rattle.day.proofs.Sizes.{length-images, length-file, answered-any, room-kept, room-written}
 
@@ -52,6 +52,77 @@ module _ (s card : List ℕ) (size : ℕ) where
 
     pub add-none : countIn s < 200 → sizeOf (countIn s + 1) ≤ size → isCard card ≡ true → addRefusal s card size ≡ none
     add-none h k t = add-last h k ∙ gate-on _ _ t
+
+-- ---- one card more, whatever it is
+module _ (n size : ℕ) where
+  pub more-many : 200 ≤ n → moreRefusal n size ≡ refuse 43 0 0
+  unfolding moreRefusal
+  more-many h = gate-off _ _ (le-ltb n 200 h)
+
+  pub more-small : n < 200 → size < sizeOf (n + 1) → moreRefusal n size ≡ refuse 45 0 0
+  unfolding moreRefusal
+  more-small h k = gate-on _ _ (lt-ltb n 200 h) ∙ gate-off _ _ (lt-leb (sizeOf (n + 1)) size k)
+
+  pub more-none : n < 200 → sizeOf (n + 1) ≤ size → moreRefusal n size ≡ none
+  unfolding moreRefusal
+  more-none h k = gate-on _ _ (lt-ltb n 200 h) ∙ gate-on _ _ (le-leb (sizeOf (n + 1)) size k)
+
+-- what is refused before the card is looked at
+abbrev pub frontRefusal : List ℕ → ℕ → Refusal
+frontRefusal s size = orElse (fileRefusal s) (moreRefusal (countIn s) size)
+
+pub record Roomy (s : List ℕ) (size : ℕ) : Type 0 where
+  pub zero-file : fileRefusal s .number ≡ 0
+  pub few : countIn s < 200
+  pub room : sizeOf (countIn s + 1) ≤ size
+
+-- either the front is refused, and then so is the addition, or there is room
+pub data Front (s card : List ℕ) (size : ℕ) : Type 0 where
+  refused : (frontRefusal s size .number ≡ 0 → ⊥) → addRefusal s card size ≡ frontRefusal s size → Front s card size
+  roomy : frontRefusal s size .number ≡ 0 → Roomy s size → Front s card size
+
+pub front : (s card : List ℕ) (size : ℕ) → Front s card size
+front s card size = first (eqb (fileRefusal s .number) 0) refl
+  where
+    number : {x : Refusal} → frontRefusal s size ≡ x → frontRefusal s size .number ≡ x .number
+    number e = ap (λ (r : Refusal). r .number) e
+
+    third : fileRefusal s .number ≡ 0 → countIn s < 200 → (q : Bool) → leb (sizeOf (countIn s + 1)) size ≡ q → Front s card size
+    third o h true t =
+        let k = leb-true (sizeOf (countIn s + 1)) size t in
+        roomy (number (or-on (fileRefusal s) _ o ∙ more-none (countIn s) size h k)) (record { zero-file = o; few = h; room = k })
+    third o h false t =
+        let k = leb-false (sizeOf (countIn s + 1)) size t in
+        let e = or-on (fileRefusal s) (moreRefusal (countIn s) size) o ∙ more-small (countIn s) size h k in
+        refused (λ z. absurd (omega (arith, number e))) (add-small s card size o h k ∙ sym e)
+
+    second : fileRefusal s .number ≡ 0 → (q : Bool) → ltb (countIn s) 200 ≡ q → Front s card size
+    second o true t = third o (ltb-true (countIn s) 200 t) (leb (sizeOf (countIn s + 1)) size) refl
+    second o false t =
+        let h = ltb-false (countIn s) 200 t in
+        let e = or-on (fileRefusal s) (moreRefusal (countIn s) size) o ∙ more-many (countIn s) size h in
+        refused (λ z. absurd (omega (arith, number e))) (add-many s card size o h ∙ sym e)
+
+    first : (q : Bool) → eqb (fileRefusal s .number) 0 ≡ q → Front s card size
+    first true t = second (eqb-true (fileRefusal s .number) 0 t) (ltb (countIn s) 200) refl
+    first false t =
+        let h = eqb-false (fileRefusal s .number) 0 t in
+        let e = or-stop (fileRefusal s) (moreRefusal (countIn s) size) h in
+        refused (λ z. h (sym (number e) ∙ z)) (add-file s card size h ∙ sym e)
+
+pub front-refused : (s card : List ℕ) (size : ℕ) → (frontRefusal s size .number ≡ 0 → ⊥) → addRefusal s card size ≡ frontRefusal s size
+front-refused s card size h = go (front s card size)
+  where
+    go : Front s card size → addRefusal s card size ≡ frontRefusal s size
+    go (refused k e) = e
+    go (roomy z r) = absurd (h z)
+
+pub front-roomy : (s : List ℕ) (size : ℕ) → frontRefusal s size .number ≡ 0 → Roomy s size
+front-roomy s size h = go (front s [] size)
+  where
+    go : Front s [] size → Roomy s size
+    go (refused k e) = absurd (k h)
+    go (roomy z r) = r
 
 -- an addition that is not refused
 pub record Added (s card : List ℕ) (size : ℕ) : Type 0 where

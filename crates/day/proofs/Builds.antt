@@ -4,18 +4,18 @@ use native.Mathlib.Omega.{arith}
 use borrow.Author.Tests.{le-leb, lt-leb, eq-eqb, ne-eqb, leb-true, leb-false, eqb-true, eqb-false}
 use mathlib.Core.Path.{_≡_, refl, sym, ap, ap₂, _∙_}
 use mathlib.Core.Bool.{Bool, true, false}
-use mathlib.Core.List.{List, _++_}
+use mathlib.Core.List.{List, [], _++_, append-nil}
 use lib.Dec.{eqb, leb}
-use lib.ListN.{length}
-use lib.Seq.{sets, take-all}
+use lib.ListN.{length, take}
+use lib.Seq.{sets, take-all, length-take-le}
 use Rattle.card.specs.declared.Refusal.{Refusal}
 use Rattle.card.specs.Refusals.{refuse, none, gate, orElse}
 use Rattle.ground.specs.Pieces.{pieces}
 use Rattle.day_index.specs.Order.{flat}
-use Rattle.day_index.proofs.Parts.{flat-pieces, length-pieces}
-use Rattle.day.specs.Files.{Cards, fileOf, trailer, indexBytes, sizeOf, mostCards, cardsRefusal}
-use Rattle.day.specs.Calls.{answered, laidImages, buildRefusal, buildAnswer, buildRoom, roomAfter}
-use Rattle.day.proofs.Turns.{none-refused}
+use Rattle.day_index.proofs.Parts.{flat-pieces, length-pieces, pieces-flat, pieces-sized}
+use Rattle.day.specs.Files.{Cards, fileOf, trailer, indexBytes, sizeOf, mostCards, countIn, imagesIn, cardsRefusal}
+use Rattle.day.specs.Calls.{answered, laidImages, laidRefusal, roomRefusal, buildRefusal, buildAnswer, buildRoom, roomAfter}
+use Rattle.day.proofs.Turns.{none-refused, all-cards}
 use Rattle.day.proofs.Opens.{or-stop, or-on, gate-on, gate-off}
 use Rattle.day.proofs.Sizes.{length-file, answered-any, room-kept, room-written}
 
@@ -54,6 +54,68 @@ module _ (s : List ℕ) (size : ℕ) where
 
       pub build-none : many ≤ 200 → sizeOf many ≤ size → buildRefusal s size ≡ none
       build-none h k = even ∙ or-on cardsTest lastTests z ∙ gate-on _ _ (le-leb many 200 h) ∙ gate-on _ _ (le-leb (sizeOf many) size k)
+
+-- ---- what the images tell by themselves
+module _ (s : List ℕ) where
+  pub laid-many : 200 < length s / 256 → laidRefusal s ≡ orElse (cardsRefusal 0 (laidImages s)) (refuse 43 0 0)
+  unfolding laidRefusal
+  laid-many h = ap (orElse (cardsRefusal 0 (laidImages s))) (gate-off _ _ (lt-leb (length s / 256) 200 h))
+
+  pub laid-few : length s / 256 ≤ 200 → laidRefusal s ≡ cardsRefusal 0 (laidImages s)
+  unfolding laidRefusal
+  laid-few h = ap (orElse (cardsRefusal 0 (laidImages s))) (gate-on _ _ (le-leb (length s / 256) 200 h)) ∙ go (eqb (cardsRefusal 0 (laidImages s) .number) 0) refl
+    where
+      go : (q : Bool) → eqb (cardsRefusal 0 (laidImages s) .number) 0 ≡ q → orElse (cardsRefusal 0 (laidImages s)) none ≡ cardsRefusal 0 (laidImages s)
+      go true t =
+          let z = eqb-true (cardsRefusal 0 (laidImages s) .number) 0 t in
+          or-on (cardsRefusal 0 (laidImages s)) none z ∙ sym (all-cards 0 (laidImages s) (none-refused 0 (laidImages s) z))
+      go false t = or-stop (cardsRefusal 0 (laidImages s)) none (eqb-false (cardsRefusal 0 (laidImages s) .number) 0 t)
+
+  pub build-even : (size : ℕ) → length s % 256 ≡ 0 → buildRefusal s size ≡ orElse (laidRefusal s) (roomRefusal (length s / 256) size)
+  unfolding laidRefusal roomRefusal
+  build-even size e = even s size e ∙ go (eqb (cardsRefusal 0 (laidImages s) .number) 0) refl
+    where
+      a : Refusal
+      a = cardsRefusal 0 (laidImages s)
+
+      last : Refusal
+      last = gate (leb (sizeOf (length s / 256)) size) (refuse 45 0 0) none
+
+      second : (q : Bool) → leb (length s / 256) mostCards ≡ q
+          → gate (leb (length s / 256) mostCards) (refuse 43 0 0) last ≡ orElse (gate (leb (length s / 256) mostCards) (refuse 43 0 0) none) last
+      second true t = gate-on _ _ t ∙ sym (ap (λ (x : Refusal). orElse x last) (gate-on _ _ t) ∙ or-on none last refl)
+      second false t = gate-off _ _ t ∙ sym (ap (λ (x : Refusal). orElse x last) (gate-off _ _ t) ∙ or-stop (refuse 43 0 0) last (λ z. absurd (omega arith)))
+
+      go : (q : Bool) → eqb (a .number) 0 ≡ q
+          → orElse a (gate (leb (length s / 256) mostCards) (refuse 43 0 0) last) ≡ orElse (orElse a (gate (leb (length s / 256) mostCards) (refuse 43 0 0) none)) last
+      go true t =
+          let z = eqb-true (a .number) 0 t in
+          or-on a _ z ∙ second (leb (length s / 256) mostCards) refl ∙ sym (ap (λ (x : Refusal). orElse x last) (or-on a _ z))
+      go false t =
+          let h = eqb-false (a .number) 0 t in
+          or-stop a _ h ∙ sym (ap (λ (x : Refusal). orElse x last) (or-stop a _ h) ∙ or-stop a last h)
+
+-- the images of a file, as they are lent
+module _ (s : List ℕ) (n : ℕ) (e : n ≡ countIn s) (h : n * 256 ≤ length s) where
+  laid-size : length (take (n * 256) s) / 256 ≡ n
+  laid-size = omega (arith, length-take-le (n * 256) s h)
+
+  pub laid-part : laidImages (take (n * 256) s) ≡ imagesIn s
+  unfolding laidImages imagesIn
+  laid-part =
+      let xs = pieces 256 n s in
+      let w : pieces 256 (length xs) (flat xs ++ []) ≡ xs = pieces-flat 256 xs [] (pieces-sized 256 n s h) in
+      ap (λ (k : ℕ). pieces 256 k (take (n * 256) s)) laid-size
+      ∙ ap (pieces 256 n) (sym (append-nil (flat xs) ∙ flat-pieces 256 n s))
+      ∙ ap (λ (k : ℕ). pieces 256 k (flat xs ++ [])) (sym (length-pieces 256 n s))
+      ∙ w
+      ∙ ap (λ (k : ℕ). pieces 256 k s) e
+
+  pub laid-file-refusal : n ≤ 200 → laidRefusal (take (n * 256) s) ≡ cardsRefusal 0 (imagesIn s)
+  laid-file-refusal k = laid-few (take (n * 256) s) (omega (arith, laid-size)) ∙ ap (cardsRefusal 0) laid-part
+
+  pub laid-length : length (take (n * 256) s) / 256 * 14 ≡ n * 14
+  laid-length = ap (λ (k : ℕ). k * 14) laid-size
 
 -- a building that is not refused
 pub record Built (s : List ℕ) (size : ℕ) : Type 0 where

@@ -1,5 +1,5 @@
 -- The steps of a search, and what a search in a file tells. Assumes nothing.
-use Prim.Native.Nat.{ℕ, zero, suc, _+_, _-_, _*_, _≤_, _<_}
+use Prim.Native.Nat.{ℕ, zero, suc, _+_, _-_, _*_, _/_, _≤_, _<_}
 use native.Mathlib.Nat.{not-suc-le-zero, le-of-suc-le-suc, add-sub-cancel-left}
 use native.Mathlib.Omega.{arith}
 use native.Mathlib.Decide.{decLe}
@@ -9,7 +9,7 @@ use mathlib.Core.Bool.{Bool, true, false, cond, not, _&&_, _||_}
 use mathlib.Core.List.{List, [], _∷_, _++_, map}
 use lib.Dec.{eqb, leb, ltb}
 use lib.ListN.{length, getD, set, take, drop, replicate}
-use lib.Seq.{sets, sets-eq, length-sets, take-take, getD-take, getD-drop}
+use lib.Seq.{sets, sets-eq, length-sets, take-all, take-take, getD-take, getD-drop}
 use Rattle.ground.specs.Lists.{leading}
 use Rattle.rules.specs.Values.{isDigit}
 use Rattle.ground.proofs.Lists.{and-left, and-right, leading-alike}
@@ -18,14 +18,14 @@ use Rattle.card.specs.Refusals.{refuse, none, gate}
 use Rattle.card.proofs.Chains.{neither, gate-in}
 use Rattle.ground.specs.Pieces.{pieces}
 use Rattle.ground.specs.Lists.{sameList}
-use Rattle.day_index.specs.Order.{rankOf}
-use Rattle.day_index.proofs.Parts.{piece-at}
-use Rattle.day_cards.specs.Cards.{padded, entry, isCard, numberOf}
-use Rattle.day.specs.Index.{positionOf, lookup}
-use Rattle.day.specs.Files.{Cards, no-cards, one-card, indexBytes, countIn, imagesIn, fileRefusal}
-use Rattle.day.specs.Calls.{answered, numberFormed, hasNumber, firstWith, findRefusal, findAnswer}
-use Rattle.day_cards.proofs.Padded.{entry-stored}
-use Rattle.day.proofs.Entries.{entries-are}
+use Rattle.day_index.proofs.Parts.{piece-at, length-pieces}
+use Rattle.day.specs.Cards.{padded, entry, isCard, numberOf}
+use Rattle.day.specs.Index.{positionOf, halved, toldAt, lookup}
+use Rattle.day.specs.Files.{Cards, no-cards, one-card, indexBytes, countIn, imagesIn, indexIn, fileRefusal}
+use Rattle.day.specs.Calls.{answered, pastRefusal, numberFormed, hasNumber, firstWith, entriesIn, positionIn, findRefusal, findAnswer}
+use Rattle.day.proofs.Padded.{entry-stored}
+use Rattle.day.proofs.Searches.{halved-rank, told-rank}
+use Rattle.day.proofs.Entries.{entries-are, entries-sorted, length-index-bytes}
 use Rattle.day.proofs.Opens.{or-stop, or-on, gate-on, gate-off, opened}
 use Rattle.day.proofs.Sizes.{length-images, answered-any}
 use Rattle.day.proofs.Numbers.{card-number, padded-same}
@@ -92,19 +92,19 @@ key-stored v bytes h e =
     let front : take 12 bytes ≡ padded v = ap (take 12) whole ∙ blanks v 12 (14 - length v) 12 0x20 (omega arith) (omega arith) in
     entry-stored v bytes 0 n front
 
--- ---- what a search finds
-module _ (key : List ℕ) (es : List (List ℕ)) (n r : ℕ) (e : r ≡ rankOf key es) (m : length es ≡ n) where
-  pub past-all : n ≤ r → n ≡ lookup key es
-  unfolding lookup
-  past-all h = rw (← e, le-ltb r (length es) (omega arith)) (sym m)
+-- ---- what the entry at a place tells
+module _ (key : List ℕ) (es : List (List ℕ)) (n r : ℕ) (m : length es ≡ n) where
+  pub past-all : n ≤ r → n ≡ toldAt key es r
+  unfolding toldAt
+  past-all h = rw (le-ltb r (length es) (omega arith)) (sym m)
 
-  pub unlike : r < n → sameList (take 12 (getD es r [])) (take 12 key) ≡ false → n ≡ lookup key es
-  unfolding lookup
-  unlike h t = rw (← e, lt-ltb r (length es) (omega arith), t) (sym m)
+  pub unlike : r < n → sameList (take 12 (getD es r [])) (take 12 key) ≡ false → n ≡ toldAt key es r
+  unfolding toldAt
+  unlike h t = rw (lt-ltb r (length es) (omega arith), t) (sym m)
 
-  pub like : r < n → sameList (take 12 (getD es r [])) (take 12 key) ≡ true → positionOf (getD es r []) ≡ lookup key es
-  unfolding lookup
-  like h t = rw (← e, lt-ltb r (length es) (omega arith), t)
+  pub like : r < n → sameList (take 12 (getD es r [])) (take 12 key) ≡ true → positionOf (getD es r []) ≡ toldAt key es r
+  unfolding toldAt
+  like h t = rw (lt-ltb r (length es) (omega arith), t)
 
 -- the parts of an entry, as they are lent
 module _ (l : List ℕ) (n r : ℕ) (h : r < n) where
@@ -161,6 +161,43 @@ module _ (s q : List ℕ) where
       ∙ sym (leading-map (λ v. not (sameList (padded v) (padded q))) numberOf (imagesIn s))
       ∙ leading-alike (λ x. not (sameList (padded (numberOf x)) (padded q))) (λ x. not (hasNumber q x)) [] (imagesIn s)
       (λ k l. ap not (padded-same (numberOf (getD (imagesIn s) k [])) q (card-number (getD (imagesIn s) k []) (card-at (opened s z .cards) k l)) t))
+
+  -- the position that the index of a file tells is that of the first card
+  module _ (z : fileRefusal s .number ≡ 0) (index : List ℕ) (i : index ≡ indexIn s) where
+    index-size : length index ≡ countIn s * 14
+    index-size =
+        let o = opened s z in
+        ap length (i ∙ o .index) ∙ length-index-bytes (imagesIn s) ∙ ap (λ (k : ℕ). k * 14) (length-images s)
+
+    pub index-count : length index / 14 ≡ countIn s
+    index-count = omega (arith, index-size)
+
+    position-first : numberFormed q ≡ true → positionIn index q ≡ firstWith q (imagesIn s)
+    unfolding positionIn
+    position-first t =
+        let m = length index / 14 in
+        let key = entry q 0 in
+        let es = entriesIn index in
+        let h : take (m * 14) index ≡ indexBytes (imagesIn s) = take-all (m * 14) index (omega (arith, index-size)) ∙ i ∙ opened s z .index in
+        let sorted = entries-sorted (imagesIn s) index m (length-images s ∙ sym index-count) h in
+        rw t (told-rank key es (halved m key es 0 m) (halved-rank key es m sorted (sym (length-pieces 14 m index))) ∙ first-found z t m index index-count h)
+
+    position-odd : numberFormed q ≡ false → positionIn index q ≡ countIn s
+    unfolding positionIn
+    position-odd t = rw t index-count
+
+    pub find-told : (n p : ℕ) (x : Refusal) → n ≡ countIn s → p ≡ positionIn index q → x ≡ pastRefusal p n → answered x p ≡ findAnswer s q
+    unfolding findAnswer pastRefusal
+    find-told n p x e f g = go (numberFormed q) refl
+      where
+        go : (b : Bool) → numberFormed q ≡ b → answered x p ≡ answered (findRefusal s q) (firstWith q (imagesIn s))
+        go true t =
+            let w = f ∙ position-first t in
+            ap₂ answered (g ∙ ap₂ (λ (a b : ℕ). gate (ltb a b) (refuse 44 0 0) none) w e ∙ sym (past z ∙ rw t)) w
+        go false t =
+            let w = f ∙ position-odd t in
+            let y : x ≡ refuse 44 0 0 = g ∙ gate-off _ _ (le-ltb p n (omega arith)) in
+            ap (λ (r : Refusal). answered r p) (y ∙ sym (find-odd z t)) ∙ answered-any (findRefusal s q) (λ u. let v = ap (λ (r : Refusal). r .number) (find-odd z t) in absurd (omega arith)) p (firstWith q (imagesIn s))
 
   pub refused-find : (x : Refusal) → x ≡ findRefusal s q → (x .number ≡ 0 → ⊥) → answered x 0 ≡ findAnswer s q
   unfolding findAnswer

@@ -4,13 +4,14 @@ use native.Mathlib.Omega.{arith}
 use borrow.Author.Tests.{le-leb, lt-leb, eq-eqb, ne-eqb, leb-true, eqb-true}
 use mathlib.Core.Path.{_≡_, sym, ap, _∙_}
 use mathlib.Core.Bool.{true, false, _&&_}
-use mathlib.Core.List.{List}
+use mathlib.Core.List.{List, _++_}
 use lib.Dec.{leb, eqb}
 use lib.ListN.{length, take, drop}
+use lib.Seq.{sets}
 use Rattle.ground.proofs.Lists.{and-left, and-right}
 use Rattle.ground.proofs.Pieces.{to-end}
 use Rattle.ground.specs.Lists.{sameList}
-use Rattle.day.specs.Files.{countIn, indexIn, sizeOf, mostCards, trailer, fits}
+use Rattle.day.specs.Files.{countIn, indexIn, sizeOf, mostCards, trailer, fits, closed}
 
 module _ (s : List ℕ) where
   pub too-short : length s < 8 → fits s ≡ false
@@ -62,3 +63,21 @@ framed s t =
       size = eqb-true (length s) (sizeOf (countIn s)) (and-left d e t2);
       trail = and-right d e t2;
     }
+
+-- what is closed
+module _ (n : ℕ) (index room : List ℕ) where
+  pub closed-many : 200 < n → room ≡ closed n index room
+  unfolding closed
+  closed-many h = rw (lt-leb n 200 h)
+
+  pub closed-odd : n ≤ 200 → (length index ≡ n * 14 → ⊥) → room ≡ closed n index room
+  unfolding closed
+  closed-odd h k = rw (le-leb n 200 h, ne-eqb (length index) (n * 14) k)
+
+  pub closed-small : n ≤ 200 → length index ≡ n * 14 → length room < n * 270 + 8 → room ≡ closed n index room
+  unfolding closed
+  closed-small h k l = rw (le-leb n 200 h, eq-eqb (length index) (n * 14) k, lt-leb (n * 270 + 8) (length room) l)
+
+  pub closed-right : n ≤ 200 → length index ≡ n * 14 → n * 270 + 8 ≤ length room → closed n index room ≡ sets room (n * 256) (index ++ trailer n index)
+  unfolding closed
+  closed-right h k l = rw (le-leb n 200 h, eq-eqb (length index) (n * 14) k, le-leb (n * 270 + 8) (length room) l)

@@ -1,4 +1,5 @@
 -- The laws of the definitions.
+pub mod Padded
 pub mod Searches
 pub mod Entries
 pub mod Turns

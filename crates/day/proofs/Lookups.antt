@@ -14,9 +14,9 @@ use Rattle.ground.proofs.Lists.{true-false, leading-most, leading-before, leadi
 use Rattle.ground.specs.Lists.{sameList}
 use Rattle.day_index.specs.Order.{below, rankOf}
 use Rattle.day_index.proofs.Inserts.{sorted-at}
-use Rattle.day_cards.specs.Cards.{padded, twoBytes, entry}
+use Rattle.day.specs.Cards.{padded, twoBytes, entry}
 use Rattle.day.specs.Index.{indexOf, positionOf, lookup}
-use Rattle.day_cards.proofs.Padded.{length-padded}
+use Rattle.day.proofs.Padded.{length-padded}
 use Rattle.day.proofs.Entries.{length-index, index-sorted}
 use Rattle.day.proofs.Opens.{same-self}
 use Rattle.ground.proofs.Lists.{same-equal}

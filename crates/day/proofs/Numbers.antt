@@ -25,7 +25,7 @@ use Rattle.card.specs.Rules.{Entry, entries, objectRows, RowMet, AllMet, none-l
 use Rattle.card.specs.Reading.{accepted, readRefusal, contentAt, walkOf, valuesIn, answered as told, answer, answerOf}
 use Rattle.card.proofs.Records.{content-back}
 use Rattle.demands.proofs.ReadSound.{read-sound}
-use Rattle.day_cards.specs.Cards.{isCard, numberOf, padded}
+use Rattle.day.specs.Cards.{isCard, numberOf, padded}
 use Rattle.day.specs.Calls.{numberFormed}
 use Rattle.day.proofs.Opens.{same-self}
 use Rattle.day.proofs.Sizes.{card-read}

@@ -15,7 +15,7 @@ use Rattle.card.specs.Refusals.{gate, orElse}
 use Rattle.card.specs.Reading.{readRefusal, answered as told, answer, answerOf}
 use Rattle.day_index.proofs.Parts.{Sized, sized-none, sized-more, length-flat, length-pieces}
 use Rattle.day_index.specs.Order.{flat}
-use Rattle.day_cards.specs.Cards.{isCard}
+use Rattle.day.specs.Cards.{isCard}
 use Rattle.day.specs.Files.{Cards, no-cards, one-card, fileOf, trailer, indexBytes, sizeOf, countIn, imagesIn}
 use Rattle.day.specs.Calls.{answered, roomAfter}
 use Rattle.day.proofs.Entries.{length-index-bytes}

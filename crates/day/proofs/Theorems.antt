@@ -15,7 +15,7 @@ use Rattle.ground.specs.Pieces.{pieces}
 use Rattle.ground.specs.Lists.{sameList}
 use Rattle.day_index.specs.Order.{below, insert, flat}
 use Rattle.day_index.proofs.Parts.{length-pieces, length-flat, pieces-flat, flat-pieces}
-use Rattle.day_cards.specs.Cards.{entry, numberOf}
+use Rattle.day.specs.Cards.{entry, numberOf}
 use Rattle.day.specs.Index.{indexFrom, indexOf}
 use Rattle.day.specs.Files.{Cards, DayFile, fileOf, trailer, indexBytes, sizeOf, countIn, imagesIn, indexIn, fits, cardsRefusal, fileRefusal}
 use Rattle.day.specs.Calls.{answered, roomAfter, numberFormed, hasNumber, firstWith, findRefusal, findAnswer, addRefusal, addAnswer, addRoom, laidImages, buildRefusal, buildAnswer, buildRoom}

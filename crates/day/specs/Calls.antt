@@ -11,8 +11,9 @@ use Rattle.card.specs.Refusals.{refuse, none, gate, orElse}
 use Rattle.ground.specs.Pieces.{pieces}
 use Rattle.day.specs.declared.Answer.{Answer}
 use Rattle.ground.specs.Lists.{sameList}
-use Rattle.day_cards.specs.Cards.{isCard, numberOf}
-use Rattle.day.specs.Files.{fileOf, mostCards, sizeOf, countIn, imagesIn, cardsRefusal, fileRefusal}
+use Rattle.day.specs.Cards.{isCard, numberOf, entry}
+use Rattle.day.specs.Index.{halved, toldAt}
+use Rattle.day.specs.Files.{fileOf, mostCards, sizeOf, countIn, imagesIn, cardsRefusal, indexRoom, fileRefusal}
 
 abbrev pub accepts : Refusal → Bool
 accepts x = eqb (x .number) 0
@@ -27,6 +28,10 @@ roomAfter x new room = cond (accepts x) (new ++ drop (length new) room) room
 -- ---- reading: the count, and where the image at a position starts
 unfoldable pub countAnswer : List ℕ → Answer
 countAnswer file = answered (fileRefusal file) (countIn file)
+
+-- 44: a position past so many images
+unfoldable pub pastRefusal : ℕ → ℕ → Refusal
+pastRefusal position count = gate (ltb position count) (refuse 44 0 0) none
 
 unfoldable pub imageRefusal : List ℕ → ℕ → Refusal
 imageRefusal file position = orElse (fileRefusal file) (gate (ltb position (countIn file)) (refuse 44 0 0) none)
@@ -48,6 +53,16 @@ hasNumber number image = sameList (numberOf image) number
 unfoldable pub firstWith : List ℕ → List (List ℕ) → ℕ
 firstWith number images = leading (λ x. not (hasNumber number x)) images
 
+-- the position that an index tells of a number, and how many entries it has where it tells none
+abbrev pub entriesIn : List ℕ → List (List ℕ)
+entriesIn index = pieces 14 (length index / 14) index
+
+unfoldable pub positionIn : List ℕ → List ℕ → ℕ
+positionIn index number =
+    cond (numberFormed number)
+    (toldAt (entry number 0) (entriesIn index) (halved (length index / 14) (entry number 0) (entriesIn index) 0 (length index / 14)))
+    (length index / 14)
+
 unfoldable pub findRefusal : List ℕ → List ℕ → Refusal
 findRefusal file number =
     orElse (fileRefusal file)
@@ -57,6 +72,10 @@ unfoldable pub findAnswer : List ℕ → List ℕ → Answer
 findAnswer file number = answered (findRefusal file number) (firstWith number (imagesIn file))
 
 -- ---- adding a card at the end
+-- 43, 45: of a file of so many cards, where one more comes into a room of this size
+unfoldable pub moreRefusal : ℕ → ℕ → Refusal
+moreRefusal count size = gate (ltb count mostCards) (refuse 43 0 0) (gate (leb (sizeOf (count + 1)) size) (refuse 45 0 0) none)
+
 unfoldable pub addRefusal : List ℕ → List ℕ → ℕ → Refusal
 addRefusal file card size =
     orElse (fileRefusal file)
@@ -73,6 +92,17 @@ addRoom file card room = roomAfter (addRefusal file card (length room)) (fileOf 
 -- ---- building a file afresh, from images laid end to end
 unfoldable pub laidImages : List ℕ → List (List ℕ)
 laidImages bytes = pieces 256 (length bytes / 256) bytes
+
+-- 41, 43; and the index of at most 200 images, in a room
+unfoldable pub laidRefusal : List ℕ → Refusal
+laidRefusal bytes = orElse (cardsRefusal 0 (laidImages bytes)) (gate (leb (length bytes / 256) mostCards) (refuse 43 0 0) none)
+
+unfoldable pub laidRoom : List ℕ → List ℕ → List ℕ
+laidRoom bytes room = cond (leb (length bytes / 256) mostCards) (indexRoom 0 (laidImages bytes) room) room
+
+-- 45: so many images in a room of this size
+unfoldable pub roomRefusal : ℕ → ℕ → Refusal
+roomRefusal count size = gate (leb (sizeOf count) size) (refuse 45 0 0) none
 
 unfoldable pub buildRefusal : List ℕ → ℕ → Refusal
 buildRefusal bytes size =

@@ -1,17 +1,18 @@
 -- The file of a day: the images in order of reading, the index, and a trailer that points back.
 use Prim.Native.Nat.{ℕ, suc, _+_, _-_, _*_, _/_, _%_, _^_, _≤_}
 use mathlib.Core.Path.{_≡_}
-use mathlib.Core.Bool.{Bool, true, _&&_}
+use mathlib.Core.Bool.{Bool, true, cond, _&&_}
 use mathlib.Core.List.{List, [], _∷_, _++_, map}
 use lib.Dec.{eqb, leb}
 use lib.ListN.{length, getD, take, drop}
+use lib.Seq.{sets}
 use Rattle.card.specs.declared.Refusal.{Refusal}
 use Rattle.card.specs.Layout.{xorAll}
 use Rattle.card.specs.Refusals.{refuse, none, gate, orElse}
 use Rattle.ground.specs.Pieces.{pieces}
 use Rattle.ground.specs.Lists.{sameList}
-use Rattle.day_index.specs.Order.{flat}
-use Rattle.day_cards.specs.Cards.{isCard, numberOf, twoBytes}
+use Rattle.day_index.specs.Order.{flat, roomWithEntry}
+use Rattle.day.specs.Cards.{isCard, numberOf, twoBytes, entry}
 use Rattle.day.specs.Index.{indexOf}
 
 -- ---- the file of some images
@@ -67,6 +68,16 @@ fits file =
 unfoldable pub cardsRefusal : ℕ → List (List ℕ) → Refusal
 cardsRefusal k [] = none
 cardsRefusal k (x ∷ xs) = gate (isCard x) (refuse 41 k 0) (cardsRefusal (suc k) xs)
+
+-- a room in which the entry of each image is put among those before it, from position k on up to the first that is refused
+unfoldable pub indexRoom : ℕ → List (List ℕ) → List ℕ → List ℕ
+indexRoom k [] room = room
+indexRoom k (x ∷ xs) room = cond (isCard x) (indexRoom (suc k) xs (roomWithEntry (entry (numberOf x) k) k room)) room
+
+-- a room with an index and its trailer behind so many images; the same room where there are too many, or the index or the room has another size
+unfoldable pub closed : ℕ → List ℕ → List ℕ → List ℕ
+closed count index room =
+    cond (leb count mostCards && (eqb (length index) (count * 14) && leb (sizeOf count) (length room))) (sets room (count * 256) (index ++ trailer count index)) room
 
 -- 40, 41, 42
 unfoldable pub fileRefusal : List ℕ → Refusal

@@ -7,7 +7,7 @@ ghost use mathlib.Core.Path.{_≡_};
 ghost use Prim.Native.Nat.{_<_};
 ghost use lib.ListN.{getD};
 ghost use Rattle.card.specs.Content.{valueOf};
-ghost use Rattle.day_cards.specs.Cards.{isCard, numberOf, padded, entry};
+ghost use Rattle.day.specs.Cards.{isCard, numberOf, padded, entry};
 
 // Whether an image is accepted, and its entry.
 pub struct Card {

@@ -16,8 +16,8 @@ use Rattle.ground.proofs.Lists.{agree-within, leading-most, among-more, among-f
 use Rattle.edition.specs.Rows.{tags, tagOf, noRow, formedOf}
 use Rattle.edition.proofs.Rows.{bad-below, bad-rows, number-zero}
 use Rattle.card.specs.declared.Refusal.{Refusal}
-use Rattle.card.specs.declared.fields.LengthField.{LengthField}
-use Rattle.card.specs.declared.fields.LengthField.the-variants.{One, Two, Other, Cut}
+use Rattle.card.specs.declared.LengthField.{LengthField}
+use Rattle.card.specs.declared.LengthField.the-variants.{One, Two, Other, Cut}
 use Rattle.card.specs.Refusals.{refuseLength, none, badRow}
 use Rattle.card.specs.Layout.{head, body, tagAt, filler}
 use Rattle.card.specs.Rules.{Entry, entries, objectRows, isZero, firstPresent}

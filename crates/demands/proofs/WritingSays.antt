@@ -13,8 +13,8 @@ use Rattle.edition.specs.declared.Row.{Row}
 use Rattle.edition.specs.declared.Edition.{Edition}
 use Rattle.edition.specs.declared.Formed.{Formed}
 use Rattle.edition.specs.declared.Formed.the-variants.{Well, Bad, Unnumbered}
-use Rattle.rules.specs.declared.values.Verdict.{Verdict}
-use Rattle.rules.specs.declared.values.Verdict.the-variants.{Takes, Outside, Breaks}
+use Rattle.rules.specs.declared.Verdict.{Verdict}
+use Rattle.rules.specs.declared.Verdict.the-variants.{Takes, Outside, Breaks}
 use Rattle.ground.specs.Lists.{among}
 use Rattle.rules.specs.Values.{judged}
 use Rattle.ground.proofs.Lists.{leading-most}

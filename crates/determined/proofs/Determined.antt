@@ -5,52 +5,57 @@ use Rattle.lengths.proofs.Laws
 use Rattle.rules.proofs.Verdicts
 use Rattle.edition.proofs.Rows
 use Rattle.card.proofs.Forms
-use Rattle.ground.proofs.byte_at.Reads as byte-at
-use Rattle.ground.proofs.count_same.Reads as count-same
-use Rattle.ground.proofs.is_same.Reads as is-same
-use Rattle.ground.proofs.put.Reads as put
-use Rattle.ground.proofs.put_byte.Reads as put-byte
-use Rattle.ground.proofs.fill.Reads as fill
-use Rattle.ground.proofs.put_hex.Reads as put-hex
-use Rattle.ground.proofs.put_decimal.Reads as put-decimal
-use Rattle.lengths.proofs.told.Reads as lengths-told
-use Rattle.lengths.proofs.read_length.Reads as lengths-read-length
-use Rattle.lengths.proofs.put_length.Reads as put-length
+use Rattle.ground_parts.proofs.byte_at.Reads as byte-at
+use Rattle.ground_parts.proofs.count_same.Reads as count-same
+use Rattle.ground_parts.proofs.is_same.Reads as is-same
+use Rattle.ground_room.proofs.put.Reads as put
+use Rattle.ground_room.proofs.put_byte.Reads as put-byte
+use Rattle.ground_room.proofs.fill.Reads as fill
+use Rattle.ground_digits.proofs.put_hex.Reads as put-hex
+use Rattle.ground_digits.proofs.put_decimal.Reads as put-decimal
+use Rattle.lengths_read.proofs.told.Reads as lengths-told
+use Rattle.lengths_read.proofs.read_length.Reads as lengths-read-length
+use Rattle.lengths_put.proofs.put_length.Reads as put-length
 use Rattle.edition.proofs.Edition.terminal.Reads as terminal
 use Rattle.edition.proofs.Edition.issue.Reads as issue
 use Rattle.edition.proofs.Edition.formed.Reads as formed
-use Rattle.edition.proofs.tag_of.Reads as tag-of
-use Rattle.edition.proofs.permits.Reads as permits
-use Rattle.edition.proofs.shortest.Reads as shortest
-use Rattle.edition.proofs.longest.Reads as longest
-use Rattle.rules.proofs.judge.Reads as judge
-use Rattle.rules.proofs.kinds.Reads as kinds
-use Rattle.rules.proofs.judge_by.Reads as judge-by
+use Rattle.edition_tags.proofs.tag_of.Reads as tag-of
+use Rattle.edition_lengths.proofs.permits.Reads as permits
+use Rattle.edition_lengths.proofs.shortest.Reads as shortest
+use Rattle.edition_lengths.proofs.longest.Reads as longest
+use Rattle.rules_sense.proofs.is_plain.Reads as is-plain
+use Rattle.rules_sense.proofs.holds_for.Reads as holds-for
+use Rattle.rules_judge.proofs.judge.Reads as judge
+use Rattle.rules_kinds.proofs.kinds.Reads as kinds
+use Rattle.rules_kinds.proofs.judge_by.Reads as judge-by
 use Rattle.card.proofs.Record.empty.Reads as empty
 use Rattle.card.proofs.Refusal.new.Reads as new
 use Rattle.card.proofs.Refusal.of_length.Reads as of-length
 use Rattle.card.proofs.Refusal.none.Reads as none
-use Rattle.card.proofs.refuse_edition.Reads as refuse-edition
-use Rattle.card.proofs.allows_first.Reads as allows-first
-use Rattle.card.proofs.allows_last.Reads as allows-last
-use Rattle.card.proofs.count_spaces.Reads as count-spaces
-use Rattle.card.proofs.checksum.Reads as checksum
-use Rattle.card.proofs.read_length.Reads as read-length
-use Rattle.card.proofs.check_sums.Reads as check-sums
+use Rattle.card_editions.proofs.refuse_edition.Reads as refuse-edition
+use Rattle.card_ends.proofs.allows_first.Reads as allows-first
+use Rattle.card_ends.proofs.allows_last.Reads as allows-last
+use Rattle.card_ends.proofs.count_spaces.Reads as count-spaces
+use Rattle.card_checksum.proofs.checksum.Reads as checksum
+use Rattle.card_fields.proofs.read_length.Reads as read-length
+use Rattle.card_sums.proofs.check_sums.Reads as check-sums
 use Rattle.card.proofs.Places.refused.Reads as places-refused
-use Rattle.frame.proofs.check_front.Reads as check-front
-use Rattle.frame.proofs.count_tail.Reads as count-tail
-use Rattle.frame.proofs.number_tail.Reads as number-tail
-use Rattle.objects.proofs.list_objects.Reads as list-objects
-use Rattle.reader.proofs.places.Reads as places
+use Rattle.frame_front.proofs.check_front.Reads as check-front
+use Rattle.frame_tail.proofs.count_tail.Reads as count-tail
+use Rattle.frame_parts.proofs.number_tail.Reads as number-tail
+use Rattle.objects_list.proofs.list_objects.Reads as list-objects
+use Rattle.reader_places.proofs.places.Reads as places
 use Rattle.reader.proofs.read.Reads as read
 use Rattle.shipped_tables.proofs.lent_edition.Reads as lent-edition
-use Rattle.reader.proofs.places_lent.Reads as places-lent
+use Rattle.reader_places.proofs.places_lent.Reads as places-lent
 use Rattle.checks.proofs.check.Reads as check
 use Rattle.checks.proofs.check_lent.Reads as check-lent
 use Rattle.checks.proofs.check_content.Reads as check-content
 use Rattle.renumber.proofs.renumber.Reads as renumber
 use Rattle.checks.proofs.objects_size.Reads as objects-size
+use Rattle.object_sizes.proofs.lengths_of.Reads as lengths-of
+use Rattle.object_sizes.proofs.size_of.Reads as size-of
+use Rattle.object_sizes.proofs.check_sizes.Reads as check-sizes
 use Rattle.writer.proofs.write.Reads as write
 use Rattle.writer.proofs.write_lent.Reads as write-lent
 use Rattle.listing.proofs.list.Reads as list
@@ -59,13 +64,13 @@ use Rattle.wire_tables.proofs.write_table.Reads as write-table
 use Rattle.wire_records.proofs.record_of.Reads as record-of
 use Rattle.wire_records.proofs.write_record.Reads as write-record
 use Rattle.wire.proofs.pack.Reads as pack
-use Rattle.calls_cards.proofs.read.Reads as calls-read
+use Rattle.calls_read.proofs.read.Reads as calls-read
 use Rattle.kvk.proofs.kvk_read.Reads as kvk-read
-use Rattle.calls_cards.proofs.write.Reads as calls-write
+use Rattle.calls_write.proofs.write.Reads as calls-write
 use Rattle.kvk.proofs.kvk_write.Reads as kvk-write
-use Rattle.calls_cards.proofs.renumber.Reads as calls-renumber
+use Rattle.calls_renumber.proofs.renumber.Reads as calls-renumber
 use Rattle.kvk.proofs.kvk_renumber.Reads as kvk-renumber
-use Rattle.calls_cards.proofs.edition.Reads as calls-edition
+use Rattle.calls_shipped.proofs.edition.Reads as calls-edition
 use Rattle.kvk.proofs.kvk_edition.Reads as kvk-edition
 use Rattle.calls_foreign.proofs.length.Reads as calls-length
 use Rattle.kvk.proofs.kvk_length.Reads as kvk-length
@@ -171,6 +176,15 @@ renumber-once κs a z y e f p q = p ∙ sym q
 pub objects-size-once : (κs : _) (a : _) (z y : _) (e f : _) → objects-size.Post κs a z e → objects-size.Post κs a y f → z ≡ y
 objects-size-once κs a z y e f p q = p .1 ∙ sym (q .1)
 
+pub lengths-of-once : (κs : _) (a : _) (z y : _) (e f : _) → lengths-of.Post κs a z e → lengths-of.Post κs a y f → z ≡ y
+lengths-of-once κs a z y e f p q = p ∙ sym q
+
+pub size-of-once : (κs : _) (a : _) (z y : _) (e f : _) → size-of.Post κs a z e → size-of.Post κs a y f → z ≡ y
+size-of-once κs a z y e f p q = p .1 ∙ sym (q .1)
+
+pub check-sizes-once : (κs : _) (a : _) (z y : _) (e f : _) → check-sizes.Post κs a z e → check-sizes.Post κs a y f → z ≡ y
+check-sizes-once κs a z y e f p q = p ∙ sym q
+
 pub edition-of-once : (κs : _) (a : _) (z y : _) (e f : _) → edition-of.Post κs a z e → edition-of.Post κs a y f → z ≡ y
 edition-of-once κs a z y e f p q = p ∙ sym q
 
@@ -183,6 +197,12 @@ pack-once κs a z y e f p q = p ∙ sym q
 -- an enum that is told alike is the same
 pub formed-once : (κs : _) (a : _) (z y : _) (e f : _) → formed.Post κs a z e → formed.Post κs a y f → z ≡ y
 formed-once κs a z y e f p q = Rows.told-apart z y (p ∙ sym q)
+
+pub is-plain-once : (κs : _) (a : _) (z y : _) (e f : _) → is-plain.Post κs a z e → is-plain.Post κs a y f → z ≡ y
+is-plain-once κs a z y e f p q = p ∙ sym q
+
+pub holds-for-once : (κs : _) (a : _) (z y : _) (e f : _) → holds-for.Post κs a z e → holds-for.Post κs a y f → z ≡ y
+holds-for-once κs a z y e f p q = p ∙ sym q
 
 pub judge-once : (κs : _) (a : _) (z y : _) (e f : _) → judge.Post κs a z e → judge.Post κs a y f → z ≡ y
 judge-once κs a z y e f p q = Verdicts.told-apart z y (p ∙ sym q)
@@ -213,7 +233,7 @@ pub write-table-room-once : (κs : _) (a : _) (z y : _) (e f : _) → write-tabl
 write-table-room-once κs a z y e f p q = p ∙ sym q
 
 pub write-record-room-once : (κs : _) (a : _) (z y : _) (e f : _) → write-record.Post κs a z e → write-record.Post κs a y f → now (e .1 .0) ≡ now (f .1 .0)
-write-record-room-once κs a z y e f p q = p ∙ sym q
+write-record-room-once κs a z y e f p q = p .0 ∙ sym (q .0)
 
 pub put-once : (κs : _) (a : _) (z y : _) (e f : _) → put.Post κs a z e → put.Post κs a y f → z ≡ y
 put-once κs a z y e f p q = p .0 ∙ sym (q .0)

@@ -1,10 +1,15 @@
 -- No second answer of the fresher of two cards, stated as in `Determined`. Assumes nothing.
 use mathlib.Core.Path.{_≡_, sym, _∙_}
 use denote.Ref.{now}
-use Rattle.fresher.proofs.compare.Reads as compare
-use Rattle.fresher.proofs.name.Reads as name
-use Rattle.fresher.proofs.fresher_name.Reads as fresher-name
-use Rattle.fresher.proofs.write_fresher.Reads as write-fresher
+use Rattle.fresher_months.proofs.months_of.Reads as months-of
+use Rattle.fresher_months.proofs.apart.Reads as apart
+use Rattle.fresher_look.proofs.is_dated.Reads as is-dated
+use Rattle.fresher_look.proofs.look.Reads as look
+use Rattle.fresher_weigh.proofs.weigh.Reads as weigh
+use Rattle.fresher_cards.proofs.compare.Reads as compare
+use Rattle.fresher_cards.proofs.name.Reads as name
+use Rattle.fresher_cards.proofs.fresher_name.Reads as fresher-name
+use Rattle.fresher_bytes.proofs.write_fresher.Reads as write-fresher
 use Rattle.calls_pairs.proofs.fresher.Reads as calls-fresher
 use Rattle.kvk.proofs.kvk_fresher.Reads as kvk-fresher
 
@@ -32,3 +37,18 @@ kvk-fresher-room-once κs a z y e f p q = p .1 ∙ sym (q .1)
 
 pub calls-fresher-room-once : (κs : _) (a : _) (z y : _) (e f : _) → calls-fresher.Post κs a z e → calls-fresher.Post κs a y f → now (e .1 .1 .1 .0) ≡ now (f .1 .1 .1 .0)
 calls-fresher-room-once κs a z y e f p q = p .1 ∙ sym (q .1)
+
+pub months-of-once : (κs : _) (a : _) (z y : _) (e f : _) → months-of.Post κs a z e → months-of.Post κs a y f → z ≡ y
+months-of-once κs a z y e f p q = p ∙ sym q
+
+pub apart-once : (κs : _) (a : _) (z y : _) (e f : _) → apart.Post κs a z e → apart.Post κs a y f → z ≡ y
+apart-once κs a z y e f p q = p ∙ sym q
+
+pub is-dated-once : (κs : _) (a : _) (z y : _) (e f : _) → is-dated.Post κs a z e → is-dated.Post κs a y f → z ≡ y
+is-dated-once κs a z y e f p q = p ∙ sym q
+
+pub look-once : (κs : _) (a : _) (z y : _) (e f : _) → look.Post κs a z e → look.Post κs a y f → z ≡ y
+look-once κs a z y e f p q = p ∙ sym q
+
+pub weigh-once : (κs : _) (a : _) (z y : _) (e f : _) → weigh.Post κs a z e → weigh.Post κs a y f → z ≡ y
+weigh-once κs a z y e f p q = p ∙ sym q

@@ -1,6 +1,7 @@
 -- No second answer.
 pub mod Determined
 pub mod Places
+pub mod Frames
 pub mod Fresher
 pub mod Differences
 pub mod Front

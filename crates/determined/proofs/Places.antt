@@ -12,7 +12,8 @@ use Rattle.lookup.proofs.part_at.Reads as part-at
 use Rattle.host.proofs.host.Reads as host
 use Rattle.wire.proofs.write_places.Reads as write-places
 use Rattle.wire.proofs.pack_value.Reads as pack-value
-use Rattle.calls_cards.proofs.places.Reads as calls-places
+use Rattle.calls_places.proofs.places.Reads as calls-places
+use Rattle.calls_places.proofs.places_of.Reads as calls-places-of
 use Rattle.kvk.proofs.kvk_places.Reads as kvk-places
 use Rattle.calls_seen.proofs.host.Reads as calls-host
 use Rattle.kvk.proofs.kvk_host.Reads as kvk-host
@@ -48,6 +49,9 @@ host-room-once κs a z y e f p q = p .1 ∙ sym (q .1)
 
 pub kvk-places-once : (κs : _) (a : _) (z y : _) (e f : _) → kvk-places.Post κs a z e → kvk-places.Post κs a y f → z ≡ y
 kvk-places-once κs a z y e f p q = p .0 ∙ sym (q .0)
+
+pub calls-places-of-once : (κs : _) (a : _) (z y : _) (e f : _) → calls-places-of.Post κs a z e → calls-places-of.Post κs a y f → z ≡ y
+calls-places-of-once κs a z y e f p q = p ∙ sym q
 
 pub calls-places-once : (κs : _) (a : _) (z y : _) (e f : _) → calls-places.Post κs a z e → calls-places.Post κs a y f → z ≡ y
 calls-places-once κs a z y e f p q = p .0 ∙ sym (q .0)

@@ -16,8 +16,8 @@ use Rattle.card.specs.Reading.{Answer, accepted, refused, contentAt, answer, an
 use Rattle.card.specs.Places.{noPlaces, placed, placesOf, places}
 use Rattle.card.proofs.Chains.{refused-in}
 use Rattle.card.proofs.Records.{content-back}
-use Rattle.reader.specs.Steps.{valuesAt, Inside}
-use Rattle.reader.proofs.Values.{Given, reads-accepted}
+use Rattle.reader_steps.specs.Steps.{valuesAt, Inside}
+use Rattle.reader_steps.proofs.Values.{Given, reads-accepted}
 use Rattle.differences.specs.Differences.{addresses, bytesOf}
 use Rattle.differences.specs.Steps.{bytesAt}
 

@@ -11,8 +11,8 @@ use Rattle.ground.specs.Lists.{leading}
 use Rattle.ground.proofs.Lists.{leading-before}
 use Rattle.edition.specs.Rows.{tags, tagOf}
 use Rattle.card.specs.Layout.{objectTags}
-use Rattle.reader.specs.Steps.{valuesAt}
-use Rattle.reader.proofs.Copies.{value-at}
+use Rattle.reader_steps.specs.Steps.{valuesAt}
+use Rattle.reader_steps.proofs.Copies.{value-at}
 use Rattle.differences.specs.Differences.{ofValues, ofBytes, along, addresses}
 use Rattle.differences.specs.Answers.{wordOf}
 use Rattle.differences.specs.Steps.{entryOf, some, bytesAt}

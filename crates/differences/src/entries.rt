@@ -43,7 +43,7 @@ pub(crate) fn object_entry(tag: u8, first: &[u8], second: &[u8]) -> u32
     if first.len() != second.len() {
         return unlike_entry(tag, first.len(), second.len());
     }
-    let index = ground::count_same(second, first);
+    let index = ground_parts::count_same(second, first);
     if index == first.len() {
         return 0;
     }

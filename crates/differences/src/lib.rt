@@ -32,12 +32,12 @@ fn refused(refusal: Refusal) -> Differences
 pub fn compare(edition: Edition, first: &[u8], second: &[u8]) -> Differences
     ensures { λ r. ⌜ r ≡ compared edition (now (first .entry)) (now (second .entry)) ⌝ }
 {
-    let one = reader::places(edition, first);
+    let one = reader_places::places(edition, first);
     let refusal = one.refusal;
     if refusal.number != 0 {
         return refused(refusal);
     }
-    let two = reader::places(edition, second);
+    let two = reader_places::places(edition, second);
     let other = two.refusal;
     if other.number != 0 {
         return refused(other);

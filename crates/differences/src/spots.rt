@@ -4,7 +4,7 @@ ghost use mathlib.Core.Path.{_≡_};
 ghost use Prim.Native.Nat.{_+_, _≤_, _<_};
 ghost use lib.ListN.{length};
 ghost use Rattle.ground.specs.Rooms.{Put};
-ghost use Rattle.reader.specs.Steps.{valuesAt, Inside};
+ghost use Rattle.reader_steps.specs.Steps.{valuesAt, Inside};
 ghost use Rattle.differences.specs.Steps.{some, objectWords, byteWords};
 
 // Puts one entry at a place of the list, if there is one. Answers the place behind it.
@@ -40,7 +40,7 @@ pub(crate) fn put_objects(
         let b = a + lengths[i] as usize;
         let c = others[i] as usize;
         let d = c + sizes[i] as usize;
-        let entry = entries::object_entry(edition::tag_of(i), &first[a..b], &second[c..d]);
+        let entry = entries::object_entry(edition_tags::tag_of(i), &first[a..b], &second[c..d]);
         count = put_entry(room, count, entry);
         i += 1;
     }

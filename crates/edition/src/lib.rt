@@ -1,14 +1,8 @@
 // An edition: what each of the seventeen rows asks of its object, in card order; and the two that are shipped.
 // Any rows may stand in one. Whether they are well formed is told by `formed`, and asked by reader and writer before anything else.
 // A length set is a number whose bit n permits the length n; the row of the checksum is the seventeenth, and has no other form.
-mod lengths;
-mod tags;
 
-pub use lengths::longest;
-pub use lengths::permits;
-pub use lengths::shortest;
 use rules::Rule;
-pub use tags::tag_of;
 ghost use mathlib.Core.Path.{_≡_};
 ghost use mathlib.Core.Bool.{true, false};
 ghost use Rattle.edition.specs.Rows.{setFormed, byRule, rowFormed, formedOf, formedTold};

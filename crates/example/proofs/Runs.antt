@@ -11,7 +11,7 @@ use Rattle.ground.specs.Lists.{leading, among}
 use Rattle.ground.proofs.Lists.{true-false, and-right, alike-below}
 use Rattle.rules.specs.declared.Rule.{Rule}
 use Rattle.rules.specs.declared.Rule.the-variants.{Digits, Text, Lead, Code, Birth, Expiry, Raw, NotD}
-use Rattle.rules.specs.declared.values.Verdict.the-variants.{Takes}
+use Rattle.rules.specs.declared.Verdict.the-variants.{Takes}
 use Rattle.rules.specs.Values.{isText, takes, holds, judged}
 use Rattle.rules.proofs.Verdicts.{means-taken}
 use Rattle.edition.specs.declared.Row.{Row}

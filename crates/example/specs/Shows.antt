@@ -5,7 +5,7 @@ use mathlib.Core.Bool.{true, false}
 use mathlib.Core.List.{List, [], _∷_}
 use lib.ListN.{length, getD}
 use Rattle.ground.specs.Lists.{among}
-use Rattle.rules.specs.declared.values.Verdict.the-variants.{Takes}
+use Rattle.rules.specs.declared.Verdict.the-variants.{Takes}
 use Rattle.rules.specs.Values.{judged}
 use Rattle.edition.specs.declared.Row.{Row}
 use Rattle.edition.specs.declared.Edition.{Edition}

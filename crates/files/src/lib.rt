@@ -10,7 +10,7 @@ pub use words::edition_named;
 
 // Opens a file to be read and answers its descriptor, or -1.
 pub fn open(path: &[u8]) -> i32 {
-    if ground::is_same(path, b"-") {
+    if ground_parts::is_same(path, b"-") {
         return STDIN_FILENO;
     }
     let file = os::open_read(path);
@@ -23,8 +23,8 @@ pub fn open(path: &[u8]) -> i32 {
 // Writes a file by way of one that is made beside it, whose name has 7 bytes more.
 fn write_beside(path: &[u8], bytes: &[u8]) -> bool {
     let mut room = io::buffer();
-    let start = ground::put(&mut room, 0, path);
-    let end = ground::put(&mut room, start, b".XXXXXX");
+    let start = ground_room::put(&mut room, 0, path);
+    let end = ground_room::put(&mut room, start, b".XXXXXX");
     if end != path.len() + 7 {
         return false;
     }
@@ -52,7 +52,7 @@ fn write_new(name: &mut [u8], path: &[u8], bytes: &[u8]) -> bool {
 
 // Writes a file all or nothing, and answers whether it stands.
 pub fn write(path: &[u8], bytes: &[u8]) -> bool {
-    let is_written = if ground::is_same(path, b"-") {
+    let is_written = if ground_parts::is_same(path, b"-") {
         io::write_all(STDOUT_FILENO, bytes)
     } else {
         write_beside(path, bytes)

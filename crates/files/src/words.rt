@@ -6,10 +6,10 @@ ghost use Rattle.files.specs.Words.{editionNamed, chosen};
 pub fn edition_named(word: &[u8]) -> u64
     ensures { λ r. ⌜ r ≡ editionNamed (now (word .entry)) ⌝ }
 {
-    if ground::is_same(word, b"terminal") {
+    if ground_parts::is_same(word, b"terminal") {
         return 1;
     }
-    if ground::is_same(word, b"issue") {
+    if ground_parts::is_same(word, b"issue") {
         return 2;
     }
     0
@@ -22,7 +22,7 @@ pub fn choose(given: bool, word: &[u8]) -> u64
     if !given {
         return ISSUE;
     }
-    if ground::is_same(word, b"terminal") {
+    if ground_parts::is_same(word, b"terminal") {
         return TERMINAL;
     }
     NEITHER

@@ -8,8 +8,8 @@ use mathlib.Core.List.{List, [], _∷_}
 use lib.Dec.{eqb, leb}
 use lib.ListN.{length, take, drop}
 use Rattle.ground.proofs.Lists.{and-left, and-right}
-use Rattle.card.specs.declared.fields.LengthField.{LengthField}
-use Rattle.card.specs.declared.fields.LengthField.the-variants.{One, Other}
+use Rattle.card.specs.declared.LengthField.{LengthField}
+use Rattle.card.specs.declared.LengthField.the-variants.{One, Other}
 use Rattle.card.specs.declared.Refusal.{Refusal}
 use Rattle.card.specs.Fields.{lengthAt, secondByte, fieldTold}
 use Rattle.card.specs.Reading.{frontRefusal}

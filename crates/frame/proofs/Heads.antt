@@ -1,7 +1,7 @@
 -- The fixed bytes, part by part. Assumes nothing.
 use Prim.Native.Nat.{ℕ, _+_, _≤_, _<_}
 use native.Mathlib.Omega.{arith}
-use borrow.Author.Tests.{eq-eqb}
+use borrow.Author.Tests.{eq-eqb, le-leb}
 use mathlib.Core.Path.{_≡_, refl, sym, _∙_}
 use mathlib.Core.List.{List, [], _∷_, _++_}
 use lib.ListN.{length, getD, take, drop, length-take, length-drop, length-append}
@@ -11,6 +11,7 @@ use Rattle.ground.specs.Lists.{agree, sameList}
 use Rattle.card.specs.Layout.{identifier, head}
 use Rattle.card.specs.Frame.{freeOf, headEnd}
 use Rattle.ground.proofs.Lists.{agree-self, same-equal}
+use Rattle.frame.specs.Checks.{headIn}
 use Rattle.ground.proofs.Runs.{agree-cut, agree-own, run-passes, part-passes}
 
 -- the fixed bytes, and what follows each part of them
@@ -48,6 +49,10 @@ agree-whole : (part want : List ℕ) → sameList part want ≡ true → agree w
 agree-whole part want e = rw (same-equal part want e) (agree-self want)
 
 module _ (s : List ℕ) (long : 30 ≤ length s) where
+  pub head-in : headIn s ≡ headEnd s
+  unfolding headIn
+  head-in = rw (le-leb 30 (length s) long)
+
   free-long : length (free s) ≡ 11
   free-long = simp (length-take, length-drop) (omega arith)
 

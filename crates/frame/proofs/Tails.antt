@@ -12,9 +12,9 @@ use Rattle.lengths.specs.Lengths.{lengthField}
 use Rattle.card.specs.Layout.{spaces, lasts, filler}
 use Rattle.card.proofs.Room.{room}
 use Rattle.ground.proofs.Runs.{agree-short, agree-over, agree-none, agree-all, part-stops, part-passes, part-to-end}
-use Rattle.card.specs.Frame.{endOf, tailEnd, tailPart}
+use Rattle.card.specs.Frame.{tailPart}
 use borrow.Author.Tests.{eq-eqb, ne-eqb, le-leb, lt-leb}
-use Rattle.frame.specs.Checks.{sameTail, sameIn, Framed}
+use Rattle.frame.specs.Checks.{sameTail, sameIn, tailFrom}
 
 -- a part behind a template, its n spaces beginning at `start`
 pub record Placed (p : List ℕ) (n start : ℕ) : Type 0 where
@@ -99,26 +99,28 @@ module _ (p : List ℕ) (n start : ℕ) (w : Placed p n start) {m : ℕ} (led : 
           each z (suc i) l = ap (λ (x : ℕ). getD p x 0) (omega (arith, z .ends, z .two))
 
 -- ---- the part behind a template that ends at `end`
-tail-found : (s : List ℕ) (end : ℕ) → length s ≡ 256 → end ≤ 253 → end + sameTail (drop end s) ≡ end + agree (filler (255 - end) (getD s 255 0)) (drop end s)
-tail-found s end long most =
-    let size : length (drop end s) - 1 ≡ 255 - end = rw (length-drop, long) (omega arith) in
-    let place : end + (255 - end) ≡ 255 = omega arith in
-    let last : getD (drop end s) (255 - end) 0 ≡ getD s 255 0 = getD-drop end s (255 - end) 0 ∙ ap (λ (x : ℕ). getD s x 0) place in
-    rw (size, last)
+module _ (s : List ℕ) (end : ℕ) (long : length s ≡ 256) (most : end ≤ 253) where
+  tail-found : end + sameTail (drop end s) ≡ tailFrom s end
+  unfolding tailFrom
+  tail-found =
+      let size : length (drop end s) - 1 ≡ 255 - end = rw (length-drop, long) (omega arith) in
+      let place : end + (255 - end) ≡ 255 = omega arith in
+      let last : getD (drop end s) (255 - end) 0 ≡ getD s 255 0 = getD-drop end s (255 - end) 0 ∙ ap (λ (x : ℕ). getD s x 0) place in
+      rw (size, last)
 
--- as the answer has it
-pub tail-counted : (s : List ℕ) → Framed s (endOf s) → (n : ℕ) → n ≡ sameIn (take (length s - endOf s) (drop (endOf s) s)) → endOf s + n ≡ tailEnd s
-unfolding tailEnd sameIn
-tail-counted s f n e =
-    let l = length-drop (endOf s) s in
-    let lo : 3 ≤ length (drop (endOf s) s) = omega (arith, f .long, f .most) in
-    let hi : length (drop (endOf s) s) ≤ 256 = omega (arith, f .long) in
-    let is : n ≡ sameTail (drop (endOf s) s) = rw (part-to-end (endOf s) s, le-leb 3 _ lo, le-leb _ 256 hi) at e in
-    rw is (tail-found s (endOf s) (f .long) (f .most))
+  -- as the answer has it
+  pub tail-counted : (n : ℕ) → n ≡ sameIn (take (length s - end) (drop end s)) → end + n ≡ tailFrom s end
+  unfolding sameIn
+  tail-counted n e =
+      let l = length-drop end s in
+      let lo : 3 ≤ length (drop end s) = omega arith in
+      let hi : length (drop end s) ≤ 256 = omega arith in
+      let is : n ≡ sameTail (drop end s) = rw (part-to-end end s, le-leb 3 _ lo, le-leb _ 256 hi) at e in
+      rw is tail-found
 
-pub tail-most : (s : List ℕ) → Framed s (endOf s) → tailEnd s ≤ 256
-unfolding tailEnd
-tail-most s f = omega (arith, agree-within (filler (255 - endOf s) (getD s 255 0)) (drop (endOf s) s), length-drop (endOf s) s, f .long, f .most)
+  pub tail-most : tailFrom s end ≤ 256
+  unfolding tailFrom
+  tail-most = omega (arith, agree-within (filler (255 - end) (getD s 255 0)) (drop end s), length-drop end s)
 
 -- ---- in which part a byte lies, where n spaces begin at `start`
 module _ (t at n start : ℕ) (counted : n ≡ spaces t) (led : start ≡ 1 + length (lengthField n)) where

@@ -1,18 +1,20 @@
 -- Looking for an underscore, place by place and row by row. Assumes nothing.
-use mathlib.Core.Path.{_≡_, refl, sym}
-use mathlib.Core.Bool.{true, false, _||_}
-use mathlib.Core.List.{List, _∷_}
-use Prim.Native.Nat.{ℕ, _+_, _<_}
+use mathlib.Core.Path.{_≡_, refl, sym, ap, _∙_}
+use mathlib.Core.Bool.{Bool, true, false, cond, _||_}
+use mathlib.Core.List.{List, [], _∷_, _++_}
+use Prim.Native.Nat.{ℕ, zero, suc, _+_, _-_, _<_}
+use native.Mathlib.Omega.{arith}
 use native.Mathlib.Numerals.{add-one}
-use borrow.Author.Tests.{eq-eqb, ne-eqb, ltb-true}
-use lib.Dec.{ltb}
-use lib.ListN.{length, getD, drop}
-use lib.Seq.{drop-cons, drop-length}
+use borrow.Author.Tests.{eq-eqb, ne-eqb, ltb-true, ltb-false}
+use lib.Dec.{eqb, ltb}
+use lib.ListN.{length, getD, take, drop, replicate}
+use lib.Seq.{drop-cons, drop-length, take-all, take-append-le, take-append-add}
 use Rattle.ground.specs.Lists.{among}
 use Rattle.ground.proofs.Lists.{alike-below}
+use Rattle.card.specs.declared.Object.{Object}
 use Rattle.card.specs.declared.Record.{Record}
-use Rattle.card.specs.Content.{contentOf}
-use Rattle.checks.proofs.Items.{value-at}
+use Rattle.card.specs.Content.{valueOf, contentOf}
+use Rattle.front.proofs.Values.{value-at}
 use Rattle.front.specs.Refusing.{otherRows, underscored}
 use Rattle.front.proofs.Spaced.{item}
 
@@ -28,6 +30,33 @@ module _ (b : ℕ) (v : List ℕ) (i : ℕ) where
   pub mark-end : i ≡ length v → among b (drop i v) ≡ false
   unfolding among
   mark-end e = rw (e, drop-length)
+
+-- ---- what a record claims past its bytes is 0, and no underscore
+none-in-zeros : (m n : ℕ) → among 0x5F (take m (replicate n 0)) ≡ false
+unfolding among
+none-in-zeros zero n = refl
+none-in-zeros (suc m) zero = refl
+none-in-zeros (suc m) (suc n) = none-in-zeros m n
+
+mark-before : (b : ℕ) (xs ys : List ℕ) → among b ys ≡ false → among b (xs ++ ys) ≡ among b xs
+unfolding among
+mark-before b [] ys e = e
+mark-before b (x ∷ xs) ys e = ap (λ (q : Bool). eqb b x || q) (mark-before b xs ys e)
+
+pub mark-held : (o : Object) → length (o .bytes) ≡ 28 → (n : ℕ) → n ≡ cond (ltb (o .length) 28) (o .length) 28 → among 0x5F (valueOf o) ≡ among 0x5F (take n (o .bytes))
+unfolding valueOf
+mark-held o h n e = go (ltb (o .length) 28) refl e
+  where
+    go : (q : Bool) → ltb (o .length) 28 ≡ q → n ≡ cond q (o .length) 28 → among 0x5F (take (o .length) (o .bytes ++ replicate 227 0)) ≡ among 0x5F (take n (o .bytes))
+    go true t f = let less = ltb-true (o .length) 28 t in rw f (ap (among 0x5F) (take-append-le (o .length) (o .bytes) (replicate 227 0) (omega arith)))
+    go false t f =
+        let more = ltb-false (o .length) 28 t in
+        let m : ℕ = o .length - 28 in
+        let sum : o .length ≡ length (o .bytes) + m = omega arith in
+        ap (λ (k : ℕ). among 0x5F (take k (o .bytes ++ replicate 227 0))) sum
+        ∙ ap (among 0x5F) (take-append-add (o .bytes) (replicate 227 0) m)
+        ∙ mark-before 0x5F (o .bytes) (take m (replicate 227 0)) (none-in-zeros m 227)
+        ∙ ap (among 0x5F) (sym (ap (λ (k : ℕ). take k (o .bytes)) f ∙ take-all 28 (o .bytes) (omega arith)))
 
 -- ---- the printed rows
 abbrev pub allRows : List ℕ

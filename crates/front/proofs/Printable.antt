@@ -18,51 +18,17 @@ use Rattle.front.specs.Refusing.{otherRows, printedRows, underscored}
 use Rattle.front.specs.Placing.{Fits}
 use Rattle.front.specs.Promises.{printable, allOf, Lines28}
 use Rattle.front.proofs.Spaced.{field-long}
-use Rattle.front.proofs.Signs.{addition-short, status-short}
+use Rattle.front.proofs.Long.{name-long, family-long, number-long}
 use Rattle.front.proofs.Taken.{taken}
 use Rattle.front.proofs.Gates.{free}
 use Rattle.front.proofs.Invisible.{among-all, or-right}
 
 -- ---- each line has 28 places
-first-short : (names family : List ℕ) → length names ≤ 28 → length (firstOf names family) ≤ 28
-unfolding firstOf
-first-short names family h = go (onOneLine names family) refl
-  where
-    go : (q : Bool) → onOneLine names family ≡ q → length (cond q (spaced names family) names) ≤ 28
-    go true e = leb-true _ 28 e
-    go false e = h
-
-second-short : (names family : List ℕ) → length family ≤ 28 → length (secondOf names family) ≤ 28
-unfolding secondOf
-second-short names family h = go (onOneLine names family)
-  where
-    go : (q : Bool) → length (cond q [] family) ≤ 28
-    go true = omega arith
-    go false = h
-
 module _ (c : Content) (f : Fits c) where
-  name-long : length (nameLine c) ≡ 28
-  unfolding nameLine
-  name-long = field-long 28 _ (first-short (forenames c) (value c 9) (f .names))
-
-  family-long : length (familyLine c) ≡ 28
-  unfolding familyLine
-  family-long = field-long 28 _ (second-short (forenames c) (value c 9) (f .short 9 (omega arith)))
-
-  number-long : length (numberLine c) ≡ 28
-  unfolding numberLine
-  number-long =
-      let a = field-long 7 (value c 1) (f .number) in
-      let b = field-long 12 (value c 3) (f .insured) in
-      let d = field-long 4 (statusShown (value c 4)) (omega (arith, f .status, status-short (value c 4))) in
-      let e = field-long 1 (additionSign (value c 5)) (addition-short (value c 5)) in
-      let g = field-long 4 (value c 15) (f .validity) in
-      simp length-append (omega arith)
-
   lines-long : (fund : Bool) → map length (linesOf fund c) ≡ 28 ∷ 28 ∷ 28 ∷ 28 ∷ []
   unfolding linesOf
-  lines-long true = rw (name-long, family-long, field-long 28 (value c 0) (f .short 0 (omega arith)), number-long)
-  lines-long false = rw (name-long, family-long, field-long 28 [] (omega arith), number-long)
+  lines-long true = rw (name-long c f, family-long c f, field-long 28 (value c 0) (f .short 0 (omega arith)), number-long c f)
+  lines-long false = rw (name-long c f, family-long c f, field-long 28 [] (omega arith), number-long c f)
 
 -- ---- lists whose bytes all pass a test
 both : (a b : Bool) → a ≡ true → b ≡ true → (a && b) ≡ true

@@ -2,7 +2,7 @@
 use mathlib.Core.Path.{_≡_, refl, sym, ap, _∙_}
 use mathlib.Core.Bool.{Bool, true, false, cond, _||_}
 use mathlib.Core.List.{List, [], _∷_, _++_}
-use Prim.Native.Nat.{ℕ, _≤_, _<_}
+use Prim.Native.Nat.{ℕ, _-_, _≤_, _<_}
 use native.Mathlib.Omega.{arith}
 use borrow.Author.Tests.{eq-eqb, ne-eqb, eqb-true}
 use lib.Dec.{eqb}
@@ -12,9 +12,9 @@ use Rattle.ground.specs.Lists.{among}
 use Rattle.ground.proofs.Lists.{true-false}
 use Rattle.card.specs.declared.Object.{Object}
 use Rattle.card.specs.Content.{valueOf}
-use Rattle.front.specs.Lines.{toOne, toNine, stay, signOf, additionSign, statusShown}
+use Rattle.front.specs.Lines.{toOne, toNine, stay, signOf, additionSign, statusShown, field}
 use Rattle.front.specs.Refusing.{isThere}
-use Rattle.front.specs.Placing.{signed}
+use Rattle.front.specs.Placing.{signed, statusObject}
 
 -- ---- six tests are one
 six : (p q r s t u : Bool) → (p || q || r || s || t || u) ≡ (p || (q || (r || (s || (t || (u || false))))))
@@ -45,12 +45,38 @@ pub sign-by : (b : ℕ) → signOf b ≡ cond (goesToOne b) (0x31 ∷ []) (cond 
 unfolding signOf
 sign-by b = rw (among-six b 0x4D 0x41 0x4B 0x45 0x44 0x53, among-six b 0x58 0x43 0x4C 0x4E 0x46 0x50, among-six b 0x31 0x39 0x34 0x36 0x37 0x38)
 
--- a sign that stays is not 0
+-- a sign that stays is no blank
 pub stays-signed : (b : ℕ) → stays b ≡ true → signed b ≡ b ∷ []
-stays-signed b t = go (eqb b 0) refl
+stays-signed b t = go (eqb b 0x20) refl
   where
-    go : (q : Bool) → eqb b 0 ≡ q → cond q [] (b ∷ []) ≡ b ∷ []
-    go true e = absurd (true-false t (ap (λ (x : ℕ). stays x) (eqb-true b 0 e)))
+    go : (q : Bool) → eqb b 0x20 ≡ q → cond q [] (b ∷ []) ≡ b ∷ []
+    go true e = absurd (true-false t (ap (λ (x : ℕ). stays x) (eqb-true b 0x20 e)))
+    go false e = refl
+
+-- a sign is known by what it prints, and is there if it is no blank
+signed-first : (r : ℕ) → getD (signed r) 0 0x20 ≡ r
+signed-first r = go (eqb r 0x20) refl
+  where
+    go : (q : Bool) → eqb r 0x20 ≡ q → getD (cond q [] (r ∷ [])) 0 0x20 ≡ r
+    go true e = sym (eqb-true r 0x20 e)
+    go false e = refl
+
+pub signed-once : (r s : ℕ) → signed r ≡ signed s → r ≡ s
+signed-once r s e = sym (signed-first r) ∙ ap (λ (l : List ℕ). getD l 0 0x20) e ∙ signed-first s
+
+pub blank-none : (r : ℕ) → r ≡ 0x20 → isThere (signed r) ≡ false
+blank-none r e = rw (eq-eqb r 0x20 e)
+
+pub sign-there : (r : ℕ) → (r ≡ 0x20 → ⊥) → isThere (signed r) ≡ true
+sign-there r h = rw (ne-eqb r 0x20 h)
+
+-- the sign, or the blank, fills the one place of the addition
+pub sign-field : (r : ℕ) → r ∷ [] ≡ field 1 (signed r)
+unfolding field
+sign-field r = go (eqb r 0x20) refl
+  where
+    go : (q : Bool) → eqb r 0x20 ≡ q → r ∷ [] ≡ cond q [] (r ∷ []) ++ replicate (1 - length (cond q [] (r ∷ []))) 0x20
+    go true e = ap (λ (x : ℕ). x ∷ []) (eqb-true r 0x20 e)
     go false e = refl
 
 -- ---- an addition
@@ -109,11 +135,12 @@ status-short v = go (eqb (getD v 1 0x30) 0x30)
     go true = omega (arith, length-take 1 v)
     go false = omega arith
 
--- ---- the bytes of an object
-pub absent-value : valueOf (record { length = 0; bytes = replicate 28 0 }) ≡ []
-unfolding valueOf
-absent-value = refl
+-- the object of a status, by the number of its places
+pub status-object : (o : Object) (n : ℕ) → n ≡ length (statusShown (valueOf o)) → record { length = n; bytes = o .bytes } ≡ statusObject o
+unfolding statusObject
+status-object o n e = ap (λ (k : ℕ). record { length = k; bytes = o .bytes }) e
 
+-- ---- the bytes of an object
 pub byte-of : (o : Object) (k : ℕ) → k < o .length → k < length (o .bytes) → getD (valueOf o) k 0 ≡ getD (o .bytes) k 0
 unfolding valueOf
 byte-of o k h n = getD-take (o .length) (o .bytes ++ replicate 227 0) k 0 h ∙ List·getD-append (o .bytes) (replicate 227 0) 0 k n

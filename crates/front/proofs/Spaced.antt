@@ -5,7 +5,7 @@ use mathlib.Core.List.{List, [], _∷_, _++_, append-nil, append-assoc}
 use Prim.Native.Nat.{ℕ, zero, suc, _+_, _-_, _≤_}
 use native.Mathlib.Omega.{arith}
 use borrow.Author.Tests.{eqb-true, eqb-false, leb-true}
-use lib.Dec.{eqb, leb}
+use lib.Dec.{eqb}
 use lib.ListN.{length, getD, replicate, length-append, length-replicate, replicate-append-replicate}
 use Rattle.ground.proofs.Lists.{true-false}
 use Rattle.ground.specs.Pieces.{joined}
@@ -13,9 +13,9 @@ use Rattle.ground.specs.Rooms.{Put}
 use Rattle.ground.proofs.Stores.{sets-whole}
 use Rattle.card.specs.declared.Record.{Record}
 use Rattle.card.specs.Content.{Content, valueOf, contentOf, noObject}
-use Rattle.checks.proofs.Items.{value-at}
+use Rattle.front.proofs.Values.{value-at}
 use Rattle.front.specs.Lines.{value, additionSign, statusShown, spaced, forenames, onOneLine, firstOf, secondOf, field, nameLine, familyLine, numberLine, linesOf, endToEnd}
-use Rattle.front.specs.Placing.{behind}
+use Rattle.front.specs.Placing.{behind, placed, statePut, numbersPut}
 
 abbrev pub blanks : ℕ → List ℕ
 blanks n = replicate n 0x20
@@ -58,29 +58,31 @@ behind-blank (suc n) k [] l e = absurd (go (eqb (suc n) 0) (eqb k 0) refl e)
     go false false eq z = eqb-false k 0 eq (sym l)
 behind-blank (suc n) k (y ∷ b) l e = refl
 
+-- a part is no longer than what is put for it
+pub behind-more : (n : ℕ) (v : List ℕ) → length v ≤ length (behind n v)
+unfolding behind
+behind-more zero v = omega arith
+behind-more (suc n) [] = omega arith
+behind-more (suc n) (y ∷ b) = omega arith
+
 -- ---- the two name lines
-pub on-one : (names family : List ℕ) (k : ℕ) → k ≡ length names → leb (k + length (behind k family)) 28 ≡ onOneLine names family
-on-one names family k e = rw (e, spaced-long names family)
 
 module _ (names family : List ℕ) where
   pub one-line : onOneLine names family ≡ true → (k : ℕ) → k + length (spaced names family) ≡ 56
-      → names ++ (behind (length names) family ++ blanks k) ≡ field 28 (firstOf names family) ++ field 28 (secondOf names family)
-  unfolding firstOf secondOf field
+      → spaced names family ++ blanks k ≡ field 28 (firstOf names family) ++ placed 28 (secondOf names family)
+  unfolding firstOf secondOf field placed
   one-line e k h =
       let n = leb-true (length (spaced names family)) 28 e in
       let i : ℕ = 28 - length (spaced names family) in
       let sum : k ≡ i + 28 = omega arith in
-      let left : names ++ (behind (length names) family ++ blanks k) ≡ spaced names family ++ blanks k =
-      sym (append-assoc names (behind (length names) family) (blanks k)) ∙ ap (λ (l : List ℕ). l ++ blanks k) (sym (spaced-behind names family)) in
-      let right : spaced names family ++ blanks k ≡ (spaced names family ++ blanks i) ++ blanks 28 =
-      ap (λ (j : ℕ). spaced names family ++ blanks j) sum ∙ ap (λ (l : List ℕ). spaced names family ++ l) (sym (replicate-append-replicate i 28 0x20))
-      ∙ sym (append-assoc (spaced names family) (blanks i) (blanks 28)) in
-      rw e (left ∙ right)
+      rw e
+      (ap (λ (j : ℕ). spaced names family ++ blanks j) sum ∙ ap (λ (l : List ℕ). spaced names family ++ l) (sym (replicate-append-replicate i 28 0x20))
+      ∙ sym (append-assoc (spaced names family) (blanks i) (blanks 28)))
 
   pub two-lines : onOneLine names family ≡ false → (k : ℕ) → k ≡ 28 - length names
-      → names ++ (blanks k ++ field 28 family) ≡ field 28 (firstOf names family) ++ field 28 (secondOf names family)
+      → (names ++ blanks k) ++ placed 28 family ≡ field 28 (firstOf names family) ++ placed 28 (secondOf names family)
   unfolding firstOf secondOf field
-  two-lines e k h = rw (e, h) (sym (append-assoc names (blanks (28 - length names)) (family ++ blanks (28 - length family))))
+  two-lines e k h = rw (e, h)
 
 -- ---- what the rows of a record are
 abbrev pub item : Record → ℕ → List ℕ
@@ -96,22 +98,23 @@ pub names-put : (r : Record) (k₁ k₂ : ℕ) → k₁ ≡ length (item r 6) �
     → (item r 6 ++ behind k₁ (item r 7)) ++ behind k₂ (item r 8) ≡ forenames (contentOf r)
 names-put r k₁ k₂ e f = rw (names-of r, e, f, spaced-behind (spaced (item r 6) (item r 7)) (item r 8), ← spaced-behind (item r 6) (item r 7))
 
-pub name-lines-of : (r : Record) → field 28 (firstOf (forenames (contentOf r)) (item r 9)) ++ field 28 (secondOf (forenames (contentOf r)) (item r 9))
-    ≡ nameLine (contentOf r) ++ familyLine (contentOf r)
-unfolding nameLine familyLine
+pub name-lines-of : (r : Record) → field 28 (firstOf (forenames (contentOf r)) (item r 9)) ++ placed 28 (secondOf (forenames (contentOf r)) (item r 9))
+    ≡ nameLine (contentOf r) ++ placed 28 (secondOf (forenames (contentOf r)) (value (contentOf r) 9))
+unfolding nameLine
 name-lines-of r = rw (value-at r 9)
 
-pub number-line-of : (r : Record) {status sign : List ℕ} → status ≡ statusShown (item r 4) → sign ≡ additionSign (item r 5)
-    → field 7 (item r 1) ++ (field 12 (item r 3) ++ (field 4 status ++ (field 1 sign ++ field 4 (item r 15)))) ≡ numberLine (contentOf r)
-unfolding numberLine
-number-line-of r e f = rw (value-at r 1, value-at r 3, value-at r 4, value-at r 5, value-at r 15, e, f)
+pub state-of : (r : Record) {status sign : List ℕ} → status ≡ statusShown (item r 4) → sign ≡ additionSign (item r 5)
+    → placed 4 status ++ (field 1 sign ++ placed 4 (item r 15)) ≡ statePut (contentOf r)
+state-of r e f = rw (value-at r 4, value-at r 5, value-at r 15, e, f)
+
+pub numbers-of : (r : Record) → placed 7 (item r 1) ++ (placed 12 (item r 3) ++ statePut (contentOf r)) ≡ numbersPut (contentOf r)
+unfolding numbersPut
+numbers-of r = rw (value-at r 1, value-at r 3)
 
 -- ---- the lines one behind the other
-pub lines-with : (r : Record) → (nameLine (contentOf r) ++ familyLine (contentOf r)) ++ (field 28 (item r 0) ++ numberLine (contentOf r)) ≡ endToEnd (linesOf true (contentOf r))
+pub lines-with : (c : Content) → (nameLine c ++ familyLine c) ++ (field 28 (value c 0) ++ numberLine c) ≡ endToEnd (linesOf true c)
 unfolding linesOf joined
-lines-with r =
-    let c = contentOf r in
-    rw (append-nil (numberLine c), value-at r 0) (append-assoc (nameLine c) (familyLine c) (field 28 (item r 0) ++ numberLine c))
+lines-with c = rw (append-nil (numberLine c)) (append-assoc (nameLine c) (familyLine c) (field 28 (value c 0) ++ numberLine c))
 
 pub lines-without : (c : Content) → blanks 28 ++ ((nameLine c ++ familyLine c) ++ numberLine c) ≡ endToEnd (linesOf false c)
 unfolding linesOf joined field

@@ -92,11 +92,11 @@ pub(crate) fn ask(edition: Edition, image: &[u8], command: &[u8]) -> Asked
     if status != 0 {
         return decline(status);
     }
-    let table = reader::places(edition, image);
+    let table = reader_places::places(edition, image);
     let refusal = table.refusal;
     if refusal.number != 0 {
         return decline(0x69);
     }
-    let front = frame::check_front(image, Refusal::none());
+    let front = frame_front::check_front(image, Refusal::none());
     choose(parsed.offset, parsed.count, front.end)
 }

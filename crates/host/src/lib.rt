@@ -24,8 +24,8 @@ fn put_answer(room: &mut [u8], part: &[u8], status: u8) -> usize
     requires { ⌜ length (now part) + 2 ≤ length (now room) ⌝ }
     ensures { λ r. ⌜ Put (now (room .entry)) 0 (now (part .entry) ++ (status ∷ 0 ∷ [])) (now (room .exit)) r ⌝ }
 {
-    let behind = ground::put(room, 0, part);
-    ground::put(room, behind, &[status, 0])
+    let behind = ground_room::put(room, 0, part);
+    ground_room::put(room, behind, &[status, 0])
 }
 
 // Answers a command over an image under an edition, at the start of a room of 257 bytes.

@@ -27,7 +27,7 @@ pub extern "C" fn kvk_read(table: &[u8], image: &[u8], room: &mut [u8]) -> u64
     ensures { λ r. ⌜ r ≡ packed (kvkRead (now (table .entry)) (now (image .entry)) (now (room .entry))) ⌝ }
     ensures { λ _. ⌜ now (room .exit) ≡ kvkReadRoom (now (table .entry)) (now (image .entry)) (now (room .entry)) ⌝ }
 {
-    calls_cards::read(table, image, room)
+    calls_read::read(table, image, room)
 }
 
 // Writes a record of 479 bytes into an image, under a table of 103 bytes.
@@ -36,7 +36,7 @@ pub extern "C" fn kvk_write(table: &[u8], bytes: &[u8], image: &mut [u8]) -> u64
     ensures { λ r. ⌜ r ≡ packed (kvkWrite (now (table .entry)) (now (bytes .entry)) (now (image .entry))) ⌝ }
     ensures { λ _. ⌜ now (image .exit) ≡ kvkWriteImage (now (table .entry)) (now (bytes .entry)) (now (image .entry)) ⌝ }
 {
-    calls_cards::write(table, bytes, image)
+    calls_write::write(table, bytes, image)
 }
 
 // Fills a room of 103 bytes with the table of a shipped edition: 1 terminal, 2 issue.
@@ -45,7 +45,7 @@ pub extern "C" fn kvk_edition(which: u64, room: &mut [u8]) -> u64
     ensures { λ r. ⌜ r ≡ packed (kvkEdition which (now (room .entry))) ⌝ }
     ensures { λ _. ⌜ now (room .exit) ≡ kvkEditionRoom which (now (room .entry)) ⌝ }
 {
-    calls_cards::edition(which, room)
+    calls_shipped::edition(which, room)
 }
 
 // Puts the number of a table of 103 bytes on a record of 479 bytes, in place, if its edition would write the record but for the number.
@@ -54,7 +54,7 @@ pub extern "C" fn kvk_renumber(table: &[u8], bytes: &mut [u8]) -> u64
     ensures { λ r. ⌜ r ≡ packed (kvkRenumber (now (table .entry)) (now (bytes .entry))) ⌝ }
     ensures { λ _. ⌜ now (bytes .exit) ≡ kvkRenumberBytes (now (table .entry)) (now (bytes .entry)) ⌝ }
 {
-    calls_cards::renumber(table, bytes)
+    calls_renumber::renumber(table, bytes)
 }
 
 // Fills a room of 32 bytes with the start and the length of each object of an image.
@@ -63,7 +63,7 @@ pub extern "C" fn kvk_places(table: &[u8], image: &[u8], room: &mut [u8]) -> u64
     ensures { λ r. ⌜ r ≡ packed (kvkPlaces (now (table .entry)) (now (image .entry)) (now (room .entry))) ⌝ }
     ensures { λ _. ⌜ now (room .exit) ≡ kvkPlacesRoom (now (table .entry)) (now (image .entry)) (now (room .entry)) ⌝ }
 {
-    calls_cards::places(table, image, room)
+    calls_places::places(table, image, room)
 }
 
 // Answers a command over an image at the start of a room of 257 bytes; the value is how many bytes the answer has.

@@ -1,12 +1,6 @@
-// The letters of DIN 66003, in which a card is written, turned into UTF-8 and back.
-// Any bytes and any room may be lent; which of the letters a card may have is the value rules' to say.
-// Each goes as far as there are letters, and room for them: where fewer bytes were taken than lent, the next has no letter, or no room.
-mod bytes;
-mod coding;
-mod spelling;
-
-pub use coding::from_utf8;
-pub use spelling::to_utf8;
+// The letters of DIN 66003, in which a card is written, and UTF-8, by definition; and what is proved of the two ways between them.
+// No function stands here: `letters_spelled` and `letters_coded` do what is said, and promise it.
+// Each goes as far as there are letters, and room for them; what is told is how many bytes were turned, and how many they became.
 
 // How many bytes were turned, and how many bytes they became.
 pub struct Turned {

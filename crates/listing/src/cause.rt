@@ -10,8 +10,8 @@ fn put_number(room: &mut [u8], at: usize, n: usize) -> usize
     requires { ⌜ at + 4 ≤ length (now room) ⌝ }
     ensures { λ r. ⌜ Put (now (room .entry)) at (blank (decimal n)) (now (room .exit)) r ⌝ }
 {
-    let start = ground::put_byte(room, at, b' ');
-    ground::put_decimal(room, start, n)
+    let start = ground_room::put_byte(room, at, b' ');
+    ground_digits::put_decimal(room, start, n)
 }
 
 // Writes a blank and a tag.
@@ -19,8 +19,8 @@ fn put_tag(room: &mut [u8], at: usize, tag: u8) -> usize
     requires { ⌜ at + 3 ≤ length (now room) ⌝ }
     ensures { λ r. ⌜ Put (now (room .entry)) at (blank (hex tag)) (now (room .exit)) r ⌝ }
 {
-    let start = ground::put_byte(room, at, b' ');
-    ground::put_hex(room, start, tag)
+    let start = ground_room::put_byte(room, at, b' ');
+    ground_digits::put_hex(room, start, tag)
 }
 
 // Writes number, place and tag.
@@ -40,7 +40,7 @@ fn put_ends(room: &mut [u8], at: usize, refusal: Refusal) -> usize
 {
     let behind_shortest = put_number(room, at, refusal.shortest as usize);
     let behind_longest = put_number(room, behind_shortest, refusal.longest as usize);
-    ground::put_byte(room, behind_longest, b'\n')
+    ground_room::put_byte(room, behind_longest, b'\n')
 }
 
 pub(crate) fn put_refusal(room: &mut [u8], at: usize, refusal: Refusal) -> usize
@@ -48,7 +48,7 @@ pub(crate) fn put_refusal(room: &mut [u8], at: usize, refusal: Refusal) -> usize
     ensures { λ r. ⌜ Put (now (room .entry)) at (refusedLine refusal) (now (room .exit)) r ⌝ }
     ensures { λ r. ⌜ r ≤ at + 27 ⌝ }
 {
-    let behind_word = ground::put(room, at, b"REFUSED");
+    let behind_word = ground_room::put(room, at, b"REFUSED");
     let behind_cause = put_cause(room, behind_word, refusal);
     put_ends(room, behind_cause, refusal)
 }

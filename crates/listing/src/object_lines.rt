@@ -32,8 +32,8 @@ fn put_object(room: &mut [u8], at: usize, tag: u8, item: Object) -> usize
     if n == 0 {
         return at;
     }
-    let behind_tag = ground::put_hex(room, at, tag);
-    let start = ground::put_byte(room, behind_tag, b' ');
+    let behind_tag = ground_digits::put_hex(room, at, tag);
+    let start = ground_room::put_byte(room, behind_tag, b' ');
     let bytes = item.bytes;
     text::put_line(room, start, &bytes[..n])
 }
@@ -48,7 +48,7 @@ pub(crate) fn put_objects(room: &mut [u8], at: usize, content: Record) -> usize
     let mut i = 0;
     while i < 16 {
         let item = content.objects[i];
-        place = put_object(room, place, edition::tag_of(i), item);
+        place = put_object(room, place, edition_tags::tag_of(i), item);
         i += 1;
     }
     place

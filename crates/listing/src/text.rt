@@ -9,6 +9,6 @@ pub(crate) fn put_line(room: &mut [u8], at: usize, source: &[u8]) -> usize
     requires { ⌜ at + length (now source) < length (now room) ⌝ }
     ensures { λ r. ⌜ Put (now (room .entry)) at (now (source .entry) ++ (0x0A ∷ [])) (now (room .exit)) r ⌝ }
 {
-    let end = ground::put(room, at, source);
-    ground::put_byte(room, end, b'\n')
+    let end = ground_room::put(room, at, source);
+    ground_room::put_byte(room, end, b'\n')
 }

@@ -23,9 +23,9 @@ use Rattle.card.proofs.Chains.{answered-in}
 use Rattle.card.proofs.Readings.{before-in, past-in}
 use Rattle.card.proofs.Starts.{starts-length}
 use Rattle.demands.specs.Demands.{LentEdition, Accepts, Refuses, libraryReader}
-use Rattle.reader.specs.Steps.{valuesAt}
-use Rattle.reader.proofs.Copies.{values-length, value-at}
-use Rattle.reader.proofs.Values.{Given, reads-accepted}
+use Rattle.reader_steps.specs.Steps.{valuesAt}
+use Rattle.reader_steps.proofs.Copies.{values-length, value-at}
+use Rattle.reader_steps.proofs.Values.{Given, reads-accepted}
 use Rattle.lookup.specs.Parts.{partAt}
 use Rattle.lookup.specs.Telling.{TellAlike}
 use Rattle.lookup.proofs.Cuts.{within-is}

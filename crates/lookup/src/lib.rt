@@ -11,7 +11,7 @@ pub fn is_there(table: Places, k: usize) -> bool
     ensures { λ r. ⌜ r ≡ isThere table k ⌝ }
 {
     let lengths = table.lengths;
-    ground::byte_at(&lengths, k) != 0
+    ground_parts::byte_at(&lengths, k) != 0
 }
 
 // The address behind a place.
@@ -41,7 +41,7 @@ pub fn part_at<'a>(image: &'a [u8], table: Places, k: usize) -> &'a [u8]
     let lengths = table.lengths;
     cut(
         image,
-        ground::byte_at(&starts, k),
-        ground::byte_at(&lengths, k),
+        ground_parts::byte_at(&starts, k),
+        ground_parts::byte_at(&lengths, k),
     )
 }

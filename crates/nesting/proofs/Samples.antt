@@ -10,7 +10,7 @@ use lib.Dec.{eqb, leb, ltb}
 use borrow.Author.Tests.{eqb-true}
 use Rattle.rules.specs.declared.Rule.{Rule}
 use Rattle.rules.specs.declared.Rule.the-variants.{Digits, Text, Lead, Code, Birth, Expiry, Raw, NotD}
-use Rattle.rules.specs.declared.values.Verdict.the-variants.{Takes}
+use Rattle.rules.specs.declared.Verdict.the-variants.{Takes}
 use Rattle.ground.specs.Lists.{leading, among}
 use Rattle.rules.specs.Values.{isText, takes, two, holds, judged}
 use Rattle.ground.proofs.Lists.{true-false, and-left, and-right, leading-before}

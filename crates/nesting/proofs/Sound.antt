@@ -8,7 +8,7 @@ use lib.ListN.{length, getD}
 use lib.Dec.{eqb}
 use Rattle.rules.specs.declared.Rule.{Rule}
 use Rattle.rules.specs.declared.Rule.the-variants.{Digits, Text, Lead, Code, Birth, Expiry, Raw, NotD}
-use Rattle.rules.specs.declared.values.Verdict.the-variants.{Takes}
+use Rattle.rules.specs.declared.Verdict.the-variants.{Takes}
 use Rattle.ground.specs.Lists.{leading}
 use Rattle.edition.specs.Sets.{permitted}
 use Rattle.rules.specs.Values.{isDigit, isText, byClass, takes, isLead, isCode, isBirth, isExpiry, isNotD, two, bySense, holds, judged}

@@ -11,24 +11,26 @@ use lib.ListN.{length, getD, take, drop, length-append, length-drop, drop-of-len
 use lib.Seq.{drop-cons, take-all, length-take-le, drop-append-seam}
 use Rattle.rules.specs.declared.Rule.{Rule}
 use Rattle.edition.specs.declared.Row.{Row}
-use Rattle.rules.specs.declared.values.Verdict.{Verdict}
-use Rattle.rules.specs.declared.values.Verdict.the-variants.{Takes, Outside, Breaks}
+use Rattle.rules.specs.declared.Verdict.{Verdict}
+use Rattle.rules.specs.declared.Verdict.the-variants.{Takes, Outside, Breaks}
 use Rattle.ground.specs.Lists.{among}
 use Rattle.edition.specs.Sets.{permitted}
-use Rattle.rules.specs.Values.{judged, verdictTold}
+use Rattle.rules.specs.Values.{judged, holds, verdictTold}
+use Rattle.rules.specs.Kinds.{kindTable, within, judgedBy}
 use Rattle.edition.specs.Rows.{tags, tagOf}
 use Rattle.ground.proofs.Lists.{true-false}
 use Rattle.rules.proofs.Verdicts.{nine-means}
+use Rattle.rules.proofs.Tables.{by-kinds}
 use Rattle.card.specs.declared.Refusal.{Refusal}
 use Rattle.card.specs.Refusals.{refuse, refuseLength}
 use Rattle.card.specs.Walk.{Seen, absent, there, wrong, weighed, objectAt, passed, look}
-use Rattle.objects.specs.declared.standing.Found.{Found}
-use Rattle.objects.specs.declared.standing.Found.the-variants.{Object, Refused}
-use Rattle.objects.specs.declared.standing.Met.the-variants.{Absent, There, Wrong}
+use Rattle.objects.specs.declared.Found.{Found}
+use Rattle.objects.specs.declared.Found.the-variants.{Object, Refused}
+use Rattle.objects.specs.declared.Met.the-variants.{Absent, There, Wrong}
 use Rattle.card.specs.Rules.{Entry}
 use Rattle.card.proofs.Walks.{View, left-out, found, amiss, view}
 use Rattle.edition.proofs.Sets.{never-0}
-use Rattle.objects.specs.Objects.{ToldFound, foundTold, entryAt, foundOf, valued, here, passedOver, withEnds, metOf}
+use Rattle.objects.specs.Objects.{ToldFound, foundTold, entryAt, objectBy, lookBy, foundOf, valued, here, passedOver, withEnds, metOf}
 
 -- no two answers are told alike
 pub told-apart : (a b : Found) → foundTold a ≡ foundTold b → a ≡ b
@@ -46,13 +48,22 @@ told-apart (Refused x place tag) (Refused x′ place′ tag′) e =
     cc
 
 -- the first byte outside a rule's characters lies within the value
-pub index-within : (rule : Rule) (v : List ℕ) → verdictTold (judged rule v) .index ≤ length v
-index-within rule v = go (judged rule v) refl
+judged-within : (rule : Rule) (v : List ℕ) → verdictTold (judged rule v) .index ≤ length v
+judged-within rule v = go (judged rule v) refl
   where
     go : (j : Verdict) → judged rule v ≡ j → verdictTold j .index ≤ length v
     go Takes e = omega arith
     go (Outside i) e = le-of-lt (nine-means rule v i e .inside)
     go Breaks e = omega arith
+
+pub index-within : (kinds : List ℕ) (rule : Rule) (v : List ℕ) → verdictTold (judgedBy kinds rule v) .index ≤ length v
+unfolding judgedBy
+index-within kinds rule v = go (within kinds rule v) (holds rule v)
+  where
+    go : (q h : Bool) → verdictTold (cond q (cond h Takes Breaks) (judged rule v)) .index ≤ length v
+    go true true = omega arith
+    go true false = omega arith
+    go false h = judged-within rule v
 
 -- ---- the head of what is left
 pub here-end : (k : ℕ) (l : List ℕ) → length l ≡ 0 → here k l ≡ false
@@ -92,29 +103,43 @@ pub later-end : (b j : ℕ) → 17 ≤ j → among b (drop j tags) ≡ false
 unfolding among tags
 later-end b j h = rw (drop-of-length-le tags h)
 
+-- ---- with the table of the kinds, as without one
+object-by : (r : Entry) (at : ℕ) (l : List ℕ) → objectBy kindTable r at l ≡ objectAt r at l
+unfolding objectBy objectAt
+object-by r at [] = refl
+object-by r at (n ∷ l) = rw (by-kinds (r .row .rule) (take n l))
+
+look-by : (r : Entry) (ts : List ℕ) (at : ℕ) (l : List ℕ) → lookBy kindTable r ts at l ≡ look r ts at l
+unfolding lookBy look
+look-by r ts at [] = refl
+look-by r ts at (b ∷ l) = rw (object-by r at l)
+
+pub met-by : (kinds : List ℕ) (r : Entry) (ts : List ℕ) (at : ℕ) (l : List ℕ) → kinds ≡ kindTable → metOf at (lookBy kinds r ts at l) ≡ metOf at (look r ts at l)
+met-by kinds r ts at l e = rw e (ap (metOf at) (look-by r ts at l))
+
 -- ---- the object that stands at `at`, where l is left behind its tag
-module _ (k at : ℕ) (r : Row) where
-  pub found-cut : (l : List ℕ) → length l ≡ 0 → objectAt (entryAt k r) at l ≡ wrong (refuse 8 at (tagOf k))
-  unfolding objectAt
+module _ (kinds : List ℕ) (k at : ℕ) (r : Row) where
+  pub found-cut : (l : List ℕ) → length l ≡ 0 → objectBy kinds (entryAt k r) at l ≡ wrong (refuse 8 at (tagOf k))
+  unfolding objectBy
   found-cut [] e = refl
   found-cut (n ∷ l) e = absurd (omega arith)
 
   pub found-unlisted : (l : List ℕ) → 0 < length l → permitted (r .lengths) (getD l 0 0) ≡ false
-      → objectAt (entryAt k r) at l ≡ wrong (refuseLength (at + 1) (tagOf k) (r .lengths))
-  unfolding objectAt
+      → objectBy kinds (entryAt k r) at l ≡ wrong (refuseLength (at + 1) (tagOf k) (r .lengths))
+  unfolding objectBy
   found-unlisted [] h b = absurd (not-suc-le-zero h)
   found-unlisted (n ∷ l) h b = rw b
 
   pub found-overlong : (l : List ℕ) → 0 < length l → permitted (r .lengths) (getD l 0 0) ≡ true → length l < 1 + getD l 0 0
-      → objectAt (entryAt k r) at l ≡ wrong (refuse 8 at (tagOf k))
-  unfolding objectAt
+      → objectBy kinds (entryAt k r) at l ≡ wrong (refuse 8 at (tagOf k))
+  unfolding objectBy
   found-overlong [] h b c = absurd (not-suc-le-zero h)
   found-overlong (n ∷ l) h b c = rw (b, lt-leb n (length l) (omega arith))
 
   pub found-weighed : (l : List ℕ) → 0 < length l → permitted (r .lengths) (getD l 0 0) ≡ true → 1 + getD l 0 0 ≤ length l
-      → objectAt (entryAt k r) at l
-      ≡ weighed (entryAt k r) (at + 2) (take (getD l 0 0) (drop 1 l)) (drop (getD l 0 0) (drop 1 l)) (judged (r .rule) (take (getD l 0 0) (drop 1 l)))
-  unfolding objectAt
+      → objectBy kinds (entryAt k r) at l
+      ≡ weighed (entryAt k r) (at + 2) (take (getD l 0 0) (drop 1 l)) (drop (getD l 0 0) (drop 1 l)) (judgedBy kinds (r .rule) (take (getD l 0 0) (drop 1 l)))
+  unfolding objectBy
   found-weighed [] h b c = absurd (not-suc-le-zero h)
   found-weighed (n ∷ l) h b c = rw (b, le-leb n (length l) (omega arith))
 
@@ -129,10 +154,10 @@ module _ (k at : ℕ) (r : Row) where
     taken : (n : ℕ) → permitted (r .lengths) n ≡ true → 1 + n ≤ length l → Stands l (there (take n (drop 1 l)) (drop n (drop 1 l)))
     turned : (x : Refusal) → withEnds (r .lengths) (x .number) (x .place) (x .tag) ≡ x → 0 < x .number → Stands l (wrong x)
 
-  pub stands : (l : List ℕ) → Stands l (objectAt (entryAt k r) at l)
-  unfolding objectAt weighed withEnds
+  pub stands : (l : List ℕ) → Stands l (objectBy kinds (entryAt k r) at l)
+  unfolding objectBy weighed withEnds
   stands [] = turned (refuse 8 at (tagOf k)) refl (omega arith)
-  stands (n ∷ l) = go (permitted (r .lengths) n) refl (leb n (length l)) refl (judged (r .rule) (take n l))
+  stands (n ∷ l) = go (permitted (r .lengths) n) refl (leb n (length l)) refl (judgedBy kinds (r .rule) (take n l))
     where
       go : (p : Bool) → permitted (r .lengths) n ≡ p → (q : Bool) → leb n (length l) ≡ q → (d : Verdict)
           → Stands (n ∷ l)
@@ -144,18 +169,18 @@ module _ (k at : ℕ) (r : Row) where
       go true e true f Breaks = turned (refuse 10 (at + 2) (tagOf k)) refl (omega arith)
 
   -- ---- what the row finds
-  pub look-here : (ts l : List ℕ) → here k l ≡ true → look (entryAt k r) ts at l ≡ objectAt (entryAt k r) at (drop 1 l)
-  unfolding look
+  pub look-here : (ts l : List ℕ) → here k l ≡ true → lookBy kinds (entryAt k r) ts at l ≡ objectBy kinds (entryAt k r) at (drop 1 l)
+  unfolding lookBy
   look-here ts [] e = absurd (true-false e refl)
   look-here ts (b ∷ l) e = rw e
 
-  pub look-passed : (ts l : List ℕ) → here k l ≡ false → r .required ≡ false → look (entryAt k r) ts at l ≡ absent
-  unfolding look passed
+  pub look-passed : (ts l : List ℕ) → here k l ≡ false → r .required ≡ false → lookBy kinds (entryAt k r) ts at l ≡ absent
+  unfolding lookBy passed
   look-passed ts [] e q = rw q
   look-passed ts (b ∷ l) e q = rw (e, q)
 
-  pub look-missing : (l : List ℕ) → here k l ≡ false → r .required ≡ true → look (entryAt k r) (drop (suc k) tags) at l ≡ wrong (passedOver k at l)
-  unfolding look passed
+  pub look-missing : (l : List ℕ) → here k l ≡ false → r .required ≡ true → lookBy kinds (entryAt k r) (drop (suc k) tags) at l ≡ wrong (passedOver k at l)
+  unfolding lookBy passed
   look-missing [] e q = rw q
   look-missing (b ∷ l) e q = rw (e, q)
 
@@ -187,26 +212,26 @@ module _ (k at : ℕ) (r : Row) where
       rw same (refl, h)
 
   -- the answer is that of what stands there
-  pub answer-is : (l part : List ℕ) (f : Found) → part ≡ l → foundTold f ≡ foundTold (foundOf k at (objectAt (entryAt k r) at part)) → foundOf k at (objectAt (entryAt k r) at l) ≡ f
-  answer-is l part f e t = sym (told-apart f _ t ∙ ap (λ (x : List ℕ). foundOf k at (objectAt (entryAt k r) at x)) e)
+  pub answer-is : (l part : List ℕ) (f : Found) → part ≡ l → foundTold f ≡ foundTold (foundOf k at (objectBy kinds (entryAt k r) at part)) → foundOf k at (objectBy kinds (entryAt k r) at l) ≡ f
+  answer-is l part f e t = sym (told-apart f _ t ∙ ap (λ (x : List ℕ). foundOf k at (objectBy kinds (entryAt k r) at x)) e)
 
   -- ---- what the row meets
   module _ (ts l : List ℕ) where
-    pub meets-there : (start n : ℕ) → here k l ≡ true → Took (drop 1 l) start n (objectAt (entryAt k r) at (drop 1 l)) → There start n ≡ metOf at (look (entryAt k r) ts at l)
+    pub meets-there : (start n : ℕ) → here k l ≡ true → Took (drop 1 l) start n (objectBy kinds (entryAt k r) at (drop 1 l)) → There start n ≡ metOf at (lookBy kinds (entryAt k r) ts at l)
     unfolding metOf
     meets-there start n h t =
         let long : length (take n (drop 1 (drop 1 l))) ≡ n = length-take-le n (drop 1 (drop 1 l)) (omega (arith, t .inside, length-drop 1 (drop 1 l))) in
         rw (look-here ts l h, t .is, long, t .begins)
 
-    pub meets-wrong : (x : Refusal) → here k l ≡ true → objectAt (entryAt k r) at (drop 1 l) ≡ wrong x → Wrong x ≡ metOf at (look (entryAt k r) ts at l)
+    pub meets-wrong : (x : Refusal) → here k l ≡ true → objectBy kinds (entryAt k r) at (drop 1 l) ≡ wrong x → Wrong x ≡ metOf at (lookBy kinds (entryAt k r) ts at l)
     unfolding metOf
     meets-wrong x h e = rw (look-here ts l h, e)
 
-    pub meets-absent : here k l ≡ false → r .required ≡ false → Absent ≡ metOf at (look (entryAt k r) ts at l)
+    pub meets-absent : here k l ≡ false → r .required ≡ false → Absent ≡ metOf at (lookBy kinds (entryAt k r) ts at l)
     unfolding metOf
     meets-absent h q = rw (look-passed ts l h q)
 
-  pub meets-missing : (l : List ℕ) → here k l ≡ false → r .required ≡ true → Wrong (passedOver k at l) ≡ metOf at (look (entryAt k r) (drop (suc k) tags) at l)
+  pub meets-missing : (l : List ℕ) → here k l ≡ false → r .required ≡ true → Wrong (passedOver k at l) ≡ metOf at (lookBy kinds (entryAt k r) (drop (suc k) tags) at l)
   unfolding metOf
   meets-missing l h q = rw (look-missing l h q)
 

@@ -5,21 +5,23 @@ use mathlib.Core.List.{List, [], _∷_}
 use lib.Dec.{eqb, leb}
 use lib.ListN.{length, take, drop}
 use Rattle.edition.specs.declared.Row.{Row}
-use Rattle.rules.specs.declared.values.Verdict.{Verdict}
-use Rattle.rules.specs.declared.values.Verdict.the-variants.{Takes, Outside, Breaks}
+use Rattle.rules.specs.declared.Verdict.{Verdict}
+use Rattle.rules.specs.declared.Verdict.the-variants.{Takes, Outside, Breaks}
 use Rattle.ground.specs.Lists.{among}
+use Rattle.rules.specs.Kinds.{judgedBy}
+use Rattle.edition.specs.Sets.{permitted}
 use Rattle.edition.specs.Rows.{tags, tagOf}
 use Rattle.card.specs.declared.Refusal.{Refusal}
 use Rattle.card.specs.declared.Places.{Places}
 use Rattle.card.specs.Refusals.{refuse, refuseLength, orElse}
 use Rattle.card.specs.Rules.{Entry, entryOf, entries}
-use Rattle.card.specs.Walk.{Seen, absent, there, wrong, Walked, walk}
+use Rattle.card.specs.Walk.{Seen, absent, there, wrong, weighed, passed, Walked, walk}
 use Rattle.card.specs.Reading.{objectsRefusal, restIn, valuesIn, restRefusal}
 use Rattle.card.specs.Places.{noPlaces, placed}
-use Rattle.objects.specs.declared.standing.Found.{Found}
-use Rattle.objects.specs.declared.standing.Found.the-variants.{Object, Refused}
-use Rattle.objects.specs.declared.standing.Met.{Met}
-use Rattle.objects.specs.declared.standing.Met.the-variants.{Absent, There, Wrong}
+use Rattle.objects.specs.declared.Found.{Found}
+use Rattle.objects.specs.declared.Found.the-variants.{Object, Refused}
+use Rattle.objects.specs.declared.Met.{Met}
+use Rattle.objects.specs.declared.Met.the-variants.{Absent, There, Wrong}
 
 abbrev pub entryAt : ℕ → Row → Entry
 entryAt k r = entryOf (tagOf k) r
@@ -37,6 +39,18 @@ pub record ToldFound : Type 0 where
 abbrev pub foundTold : Found → ToldFound
 foundTold (Object k start n) = record { refused = false; number = 0; place = 0; tag = tagOf k; row = k; start = start; length = n }
 foundTold (Refused x place tag) = record { refused = true; number = x; place = place; tag = tag; row = 0; start = 0; length = 0 }
+
+-- the object behind the tag at `at`, and what a row finds, where values are judged by a table, whatever it has: with the table of the kinds, as without one
+unfoldable pub objectBy : List ℕ → Entry → ℕ → List ℕ → Seen
+objectBy kinds r at [] = wrong (refuse 8 at (r .tag))
+objectBy kinds r at (n ∷ bs) =
+    cond (permitted (r .row .lengths) n)
+    (cond (leb n (length bs)) (weighed r (at + 2) (take n bs) (drop n bs) (judgedBy kinds (r .row .rule) (take n bs))) (wrong (refuse 8 at (r .tag))))
+    (wrong (refuseLength (at + 1) (r .tag) (r .row .lengths)))
+
+unfoldable pub lookBy : List ℕ → Entry → List ℕ → ℕ → List ℕ → Seen
+lookBy kinds r ts at [] = passed r at true
+lookBy kinds r ts at (b ∷ bs) = cond (eqb b (r .tag)) (objectBy kinds r at bs) (passed r at (among b ts))
 
 -- what row k's object, whose tag stands at `at`, is in numbers; one that stands is not absent
 unfoldable pub foundOf : ℕ → ℕ → Seen → Found

@@ -1,2 +1,2 @@
--- What the reader answers.
-pub mod Steps
+-- What a table of places makes of an image.
+pub mod Records

@@ -1,72 +1,82 @@
-// The reader: where the values of an image stand, or its refusal; then the record copied from those places.
-// The calls are total and promise one answer for any bytes and any edition, handed over or lent as a table; none keeps anything.
-// The refusals are a chain, told in the document's order whatever is found first.
-mod record;
-mod tail;
-
+// The reader: the record of an image, copied from the places of its values, or its refusal.
+// The call is total and promises one answer for any bytes and any edition; nothing is kept.
+// The places are found first, so a refused image costs no copy.
+use card::Object;
 use card::Places;
 use card::Reading;
 use card::Record;
 use card::Refusal;
 use edition::Edition;
-use record::copy_record;
-use tail::check_behind;
-ghost use Rattle.frame.specs.Checks.{Framed};
 ghost use mathlib.Core.Path.{_≡_};
-ghost use Rattle.edition.specs.Rows.{formedOf};
-ghost use Rattle.card.specs.Places.{places as placesIn};
-ghost use Rattle.card.specs.Reading.{reading};
-ghost use Rattle.card.specs.Refusals.{badRow};
-ghost use Rattle.wire_tables.specs.Tables.{lentEdition};
-ghost use Rattle.reader.specs.Steps.{settled};
+ghost use mathlib.Core.List.{map};
+ghost use Prim.Native.Nat.{_≤_};
+ghost use lib.ListN.{length};
+ghost use Rattle.card.specs.Content.{objectOf, recordOf};
+ghost use Rattle.card.specs.Frame.{freeOf};
+ghost use Rattle.card.specs.Reading.{contentAt, reading};
+ghost use Rattle.reader_steps.specs.Steps.{valuesAt, Inside};
+ghost use Rattle.reader.specs.Records.{readAt};
 
-// The table as it is, unless something behind the objects is refused.
-fn settle(image: &[u8], end: usize, table: Places) -> Places
-    requires { ⌜ Framed (now image) end ⌝ }
-    ensures { λ r. ⌜ r ≡ settled (now (image .entry)) table ⌝ }
+// The object of a value; what lies behind the value is 0.
+fn copy_object(value: &[u8]) -> Object
+    requires { ⌜ length (now value) ≤ 28 ⌝ }
+    ensures { λ r. ⌜ r ≡ objectOf (now (value .entry)) ⌝ }
 {
-    let refusal = table.refusal;
-    if refusal.number != 0 {
-        return Places::refused(refusal);
+    let mut bytes = [0u8; 28];
+    ground_room::put(&mut bytes, 0, value);
+    Object {
+        length: value.len() as u8,
+        bytes,
     }
-    let starts = table.starts;
-    let lengths = table.lengths;
-    let behind = check_behind(image, end, starts, lengths);
-    if behind.number != 0 {
-        return Places::refused(behind);
-    }
-    table
 }
 
-// The same as places, under an edition whose refusal is known.
-fn places_under(known: Refusal, edition: Edition, image: &[u8]) -> Places
-    requires { ⌜ known ≡ badRow (formedOf edition) ⌝ }
-    ensures { λ r. ⌜ r ≡ placesIn edition (now (image .entry)) ⌝ }
+// The sixteen objects.
+fn copy_objects(image: &[u8], starts: [u8; 16], lengths: [u8; 16]) -> [Object; 16]
+    requires { ⌜ Inside (now image) starts lengths ⌝ }
+    ensures { λ r. ⌜ r ≡ map objectOf (valuesAt (now (image .entry)) starts lengths) ⌝ }
 {
-    let front = frame::check_front(image, known);
-    let refusal = front.refusal;
-    if refusal.number != 0 {
-        return Places::refused(refusal);
+    let mut objects = [Object::ABSENT; 16];
+    let mut i = 0;
+    while i < 16 {
+        let start = starts[i] as usize;
+        let stop = start + lengths[i] as usize;
+        let object = copy_object(&image[start..stop]);
+        objects[i] = object;
+        i += 1;
     }
-    let rows = edition.rows;
-    let start = front.start;
-    let end = front.end;
-    let table = objects::list_objects(&image[start..end], rows, start);
-    settle(image, end, table)
+    objects
 }
 
-// Where the values of an image stand, or its refusal.
-pub fn places(edition: Edition, image: &[u8]) -> Places
-    ensures { λ r. ⌜ r ≡ placesIn edition (now (image .entry)) ⌝ }
+// Addresses 6 to 16, then 29.
+fn copy_free(image: &[u8]) -> [u8; 12]
+    requires { ⌜ 30 ≤ length (now image) ⌝ }
+    ensures { λ r. ⌜ r ≡ freeOf (now (image .entry)) ⌝ }
 {
-    places_under(card::refuse_edition(edition), edition, image)
+    let mut free = [0u8; 12];
+    ground_room::put(&mut free, 0, &image[6..17]);
+    free[11] = image[29];
+    free
 }
 
-// Reads an image: its record with the edition's number, or the refusal and the empty record.
-pub fn read(edition: Edition, image: &[u8]) -> Reading
-    ensures { λ r. ⌜ r ≡ reading edition (now (image .entry)) ⌝ }
+// The record of those objects, with a number.
+fn copy_record(image: &[u8], starts: [u8; 16], lengths: [u8; 16], number: u8) -> Record
+    requires { ⌜ (length (now image) ≡ 256) × Inside (now image) starts lengths ⌝ }
+    ensures { λ r. ⌜ r ≡ recordOf number (contentAt (now (image .entry)) (valuesAt (now (image .entry)) starts lengths)) ⌝ }
 {
-    let table = places(edition, image);
+    Record {
+        first: image[0],
+        free: copy_free(image),
+        last: image[255],
+        objects: copy_objects(image, starts, lengths),
+        number,
+    }
+}
+
+// What the table of an image's places makes of it: its record, or the refusal and the empty record.
+fn read_at(table: Places, image: &[u8], number: u8) -> Reading
+    requires { ⌜ (table .refusal .number ≡ 0 → (length (now image) ≡ 256) × Inside (now image) (table .starts) (table .lengths)) ⌝ }
+    ensures { λ r. ⌜ r ≡ readAt table (now (image .entry)) number ⌝ }
+{
     let refusal = table.refusal;
     if refusal.number != 0 {
         return Reading {
@@ -78,14 +88,15 @@ pub fn read(edition: Edition, image: &[u8]) -> Reading
     let lengths = table.lengths;
     Reading {
         refusal: Refusal::none(),
-        content: copy_record(image, starts, lengths, edition.number),
+        content: copy_record(image, starts, lengths, number),
     }
 }
 
-// The same as places, under the edition of a lent table.
-pub fn places_lent(table: &[u8], image: &[u8]) -> Places
-    ensures { λ r. ⌜ r ≡ placesIn (lentEdition (now (table .entry))) (now (image .entry)) ⌝ }
+// Reads an image: its record with the edition's number, or the refusal and the empty record.
+pub fn read(edition: Edition, image: &[u8]) -> Reading
+    ensures { λ r. ⌜ r ≡ reading edition (now (image .entry)) ⌝ }
 {
-    let lent = shipped_tables::lent_edition(table);
-    places_under(lent.refusal, lent.edition, image)
+    let number = edition.number;
+    let table = reader_places::places(edition, image);
+    read_at(table, image, number)
 }

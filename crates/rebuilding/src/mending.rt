@@ -51,7 +51,7 @@ fn mend_objects(entries: &[u32], first: [Object; 16], second: [Object; 16]) -> [
     while i < 16 {
         let a = first[i];
         let b = second[i];
-        objects[i] = mend_object(entries, edition::tag_of(i), a, b);
+        objects[i] = mend_object(entries, edition_tags::tag_of(i), a, b);
         i += 1;
     }
     objects

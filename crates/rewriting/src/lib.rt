@@ -35,7 +35,7 @@ pub fn refuse_input(edition: Edition, size: usize, new: &[u8]) -> Refusal
     if refusal.number != 0 {
         return refusal;
     }
-    reader::places(edition, new).refusal
+    reader_places::places(edition, new).refusal
 }
 
 // Whether a plan ends in the new image, and every state on the way is the old image, the new one, or one that the edition refuses.

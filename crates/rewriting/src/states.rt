@@ -11,13 +11,13 @@ ghost use Rattle.rewriting.specs.Checking.{passes, planTest};
 fn may_be(edition: Edition, old: &[u8], new: &[u8], state: &[u8]) -> bool
     ensures { λ r. ⌜ r ≡ passes edition (now (old .entry)) (now (new .entry)) (now (state .entry)) ⌝ }
 {
-    if ground::is_same(state, old) {
+    if ground_parts::is_same(state, old) {
         return true;
     }
-    if ground::is_same(state, new) {
+    if ground_parts::is_same(state, new) {
         return true;
     }
-    let refusal = reader::places(edition, state).refusal;
+    let refusal = reader_places::places(edition, state).refusal;
     refusal.number != 0
 }
 
@@ -46,7 +46,7 @@ fn take_steps(edition: Edition, old: &[u8], new: &[u8], steps: &[u32], state: &m
         }
         i += 1;
     }
-    ground::is_same(state, new)
+    ground_parts::is_same(state, new)
 }
 
 // Takes all steps from the old image on, which is copied once.
@@ -55,6 +55,6 @@ pub(crate) fn run(edition: Edition, old: &[u8], new: &[u8], steps: &[u32]) -> bo
     ensures { λ r. ⌜ r ≡ planTest edition (now (old .entry)) (now (new .entry)) (now (old .entry)) (now (steps .entry)) ⌝ }
 {
     let mut state = [0u8; 256];
-    ground::put(&mut state, 0, old);
+    ground_room::put(&mut state, 0, old);
     take_steps(edition, old, new, steps, &mut state)
 }

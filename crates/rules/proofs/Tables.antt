@@ -13,7 +13,7 @@ use lib.ListN.{length, getD, drop, List·getD-eq-default}
 use lib.Seq.{drop-cons, drop-length}
 use Rattle.rules.specs.declared.Rule.{Rule}
 use Rattle.rules.specs.declared.Rule.the-variants.{Digits, Text, Lead, Code, Birth, Expiry, Raw, NotD}
-use Rattle.rules.specs.declared.values.Verdict.the-variants.{Takes, Breaks}
+use Rattle.rules.specs.declared.Verdict.the-variants.{Takes, Breaks}
 use Rattle.ground.specs.Lists.{leading}
 use Rattle.ground.proofs.Lists.{and-right}
 use Rattle.rules.specs.Values.{isDigit, isText, byClass, takes, holds, judged}

@@ -9,13 +9,12 @@ use mathlib.Core.List.{List, [], _∷_}
 use lib.Dec.{eqb, ltb}
 use lib.ListN.{length, getD}
 use Rattle.rules.specs.declared.Rule.{Rule}
-use Rattle.rules.specs.declared.values.Verdict.{Verdict}
-use Rattle.rules.specs.declared.values.Verdict.the-variants.{Takes, Outside, Breaks}
+use Rattle.rules.specs.declared.Verdict.{Verdict}
+use Rattle.rules.specs.declared.Verdict.the-variants.{Takes, Outside, Breaks}
 use Rattle.ground.specs.Lists.{among, leading}
 use Rattle.rules.specs.declared.Rule.the-variants.{Digits, Text, Lead, Code, Birth, Expiry, Raw, NotD}
-use Rattle.rules.specs.Characters.{charactersOf, hasByte}
 use Rattle.rules.specs.Values.{isDigit, isText, takes, isNotD, holds, judged, ToldVerdict, verdictTold, bySense}
-use Rattle.ground.proofs.Lists.{true-false, alike-below, leading-before, leading-at, leading-alike}
+use Rattle.ground.proofs.Lists.{true-false, leading-before, leading-at}
 
 -- no two verdicts are told alike
 pub told-apart : (a b : Verdict) → verdictTold a ≡ verdictTold b → a ≡ b
@@ -31,30 +30,6 @@ told-apart a b e = go a b (ap (λ (t : ToldVerdict). t .number) e) (ap (λ (t : 
     go Breaks Takes n i = absurd (omega arith)
     go Breaks (Outside k) n i = absurd (omega arith)
     go Breaks Breaks n i = refl
-
--- the bits of a rule's characters are its characters: one computed test for each class
-digit-bits : (b : ℕ) → b < 256 → hasByte (charactersOf Digits) b ≡ isDigit b
-digit-bits = alike-below (hasByte (charactersOf Digits)) isDigit 256 refl
-
-text-bits : (b : ℕ) → b < 256 → hasByte (charactersOf Text) b ≡ isText b
-unfolding isText among
-text-bits = alike-below (hasByte (charactersOf Text)) isText 256 refl
-
-any-bits : (b : ℕ) → b < 256 → hasByte (charactersOf Raw) b ≡ true
-any-bits = alike-below (hasByte (charactersOf Raw)) (λ b. true) 256 refl
-
-pub right-bits : (rule : Rule) (b : ℕ) → b < 256 → hasByte (charactersOf rule) b ≡ takes rule b
-right-bits Digits = digit-bits
-right-bits Text = text-bits
-right-bits Lead = digit-bits
-right-bits Code = text-bits
-right-bits Birth = digit-bits
-right-bits Expiry = digit-bits
-right-bits Raw = any-bits
-right-bits NotD = text-bits
-
-pub leading-bits : (rule : Rule) (v : List ℕ) → ((k : ℕ) → k < length v → getD v k 0 < 256) → leading (hasByte (charactersOf rule)) v ≡ leading (takes rule) v
-leading-bits rule v h = leading-alike (hasByte (charactersOf rule)) (takes rule) 0 v (λ k l. right-bits rule (getD v k 0) (h k l))
 
 -- exactly 79 bytes are text
 unfoldable pub count : (ℕ → Bool) → ℕ → ℕ

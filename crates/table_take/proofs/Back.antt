@@ -10,7 +10,7 @@ use Rattle.edition.specs.declared.Row.{Row}
 use Rattle.edition.specs.declared.Edition.{Edition}
 use Rattle.edition.specs.Rows.{noRow}
 use Rattle.table_text.specs.Texts.{rowText, rowsText, headText, tableText}
-use Rattle.table_take.specs.declared.lines.Taking.{Taking}
+use Rattle.table_take.specs.declared.Taking.{Taking}
 use Rattle.table_take.specs.Splitting.{lines}
 use Rattle.table_take.specs.Taking.{taking, noRows, withLine, finished, takenFrom, taken}
 use Rattle.table_take.specs.Backs.{Held, tookAll, TextBack}

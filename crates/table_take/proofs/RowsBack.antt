@@ -16,7 +16,7 @@ use Rattle.edition.specs.declared.Row.{Row}
 use Rattle.edition.specs.Rows.{tagOf}
 use Rattle.table_text.specs.Vocabulary.{vocabulary, wordOf}
 use Rattle.table_text.specs.Texts.{lengthsText, ruleWord, presenceWord, spaced, frontText, kindText, setText, rowText, headText}
-use Rattle.table_take.specs.declared.fields.Fields.{Fields}
+use Rattle.table_take.specs.declared.Fields.{Fields}
 use Rattle.table_take.specs.Splitting.{isBlank, isKind, lines, words, through}
 use Rattle.table_take.specs.Numbers.{numberOf}
 use Rattle.table_take.specs.LengthSets.{listed, lengthsOf}

@@ -17,7 +17,7 @@ use Rattle.ground.proofs.Lists.{true-false}
 use Rattle.table_text.specs.Vocabulary.{vocabulary, wordOf}
 use Rattle.table_text.specs.Texts.{has, hasBefore, firstPart, lengthPart, lengthParts, lengthsText}
 use Rattle.table_text.proofs.LengthLaws.{part-none, part-first, part-inside, part-last}
-use Rattle.table_take.specs.declared.sets.Listed.{Listed}
+use Rattle.table_take.specs.declared.Listed.{Listed}
 use Rattle.table_take.specs.Splitting.{through}
 use Rattle.table_take.specs.Numbers.{withByte, numberOf}
 use Rattle.table_take.specs.LengthSets.{withRange, itemFault, rangeFault, listed, nothingListed, settled, closed, begun, withSign, lengthsOf}

@@ -9,7 +9,7 @@ use lib.Dec.{eqb}
 use lib.ListN.{length, getD, take, drop, length-drop, drop-of-length-le, List·getD-eq-default}
 use lib.Seq.{drop-cons, drop-drop}
 use Rattle.ground.specs.Lists.{leading}
-use Rattle.table_take.specs.declared.cuts.Kind.the-variants.{Blanks, Signs, Line}
+use Rattle.table_take.specs.declared.Kind.the-variants.{Blanks, Signs, Line}
 use Rattle.table_take.specs.Taking.{isRemark}
 use Rattle.table_take.specs.Splitting.{isBlank, isKind, behindKind, before, begins, lines, words, through}
 

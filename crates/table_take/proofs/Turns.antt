@@ -4,8 +4,8 @@ use native.Mathlib.Numerals.{add-one}
 use mathlib.Core.Path.{_≡_}
 use mathlib.Core.List.{List}
 use lib.ListN.{length, take, drop, drop-of-length-le}
-use Rattle.table_take.specs.declared.cuts.Kind.the-variants.{Blanks, Signs, Line}
-use Rattle.table_take.specs.declared.lines.Taking.{Taking}
+use Rattle.table_take.specs.declared.Kind.the-variants.{Blanks, Signs, Line}
+use Rattle.table_take.specs.declared.Taking.{Taking}
 use Rattle.table_take.specs.Splitting.{behindKind, lines, words, through}
 use Rattle.table_take.specs.Taking.{withLine, finished, takenFrom}
 use Rattle.table_take.proofs.Splits.{word-next, no-word-next, line-next}

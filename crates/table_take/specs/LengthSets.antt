@@ -6,7 +6,7 @@ use lib.Bits.{bitOr}
 use lib.Dec.{eqb, ltb}
 use Rattle.ground.specs.Lists.{sameList}
 use Rattle.table_text.specs.Vocabulary.{wordOf}
-use Rattle.table_take.specs.declared.sets.Listed.{Listed}
+use Rattle.table_take.specs.declared.Listed.{Listed}
 use Rattle.table_take.specs.Splitting.{through}
 use Rattle.table_take.specs.Numbers.{withByte}
 

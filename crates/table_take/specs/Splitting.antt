@@ -5,8 +5,8 @@ use mathlib.Core.List.{List, [], _∷_}
 use lib.Dec.{eqb}
 use lib.ListN.{drop}
 use Rattle.ground.specs.Lists.{leading}
-use Rattle.table_take.specs.declared.cuts.Kind.{Kind}
-use Rattle.table_take.specs.declared.cuts.Kind.the-variants.{Blanks, Signs, Line}
+use Rattle.table_take.specs.declared.Kind.{Kind}
+use Rattle.table_take.specs.declared.Kind.the-variants.{Blanks, Signs, Line}
 
 -- a blank, a tab or a carriage return
 abbrev pub isBlank : ℕ → Bool

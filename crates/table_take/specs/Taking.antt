@@ -11,9 +11,9 @@ use Rattle.rules.specs.declared.Rule.the-variants.{Digits, Text, Lead, Code, Bi
 use Rattle.edition.specs.declared.Row.{Row}
 use Rattle.edition.specs.declared.Edition.{Edition}
 use Rattle.edition.specs.Rows.{noRow}
-use Rattle.table_take.specs.declared.cuts.Kind.the-variants.{Blanks}
-use Rattle.table_take.specs.declared.fields.Fields.{Fields}
-use Rattle.table_take.specs.declared.lines.Taking.{Taking}
+use Rattle.table_take.specs.declared.Kind.the-variants.{Blanks}
+use Rattle.table_take.specs.declared.Fields.{Fields}
+use Rattle.table_take.specs.declared.Taking.{Taking}
 use Rattle.table_take.specs.declared.Taken.{Taken}
 use Rattle.table_take.specs.Splitting.{behindKind, lines}
 use Rattle.table_take.specs.Words.{lineTaken}

@@ -8,7 +8,7 @@ use Rattle.ground.specs.Lists.{sameList}
 use Rattle.ground.specs.Rooms.{hex}
 use Rattle.edition.specs.Rows.{tagOf}
 use Rattle.table_text.specs.Vocabulary.{wordOf}
-use Rattle.table_take.specs.declared.fields.Fields.{Fields}
+use Rattle.table_take.specs.declared.Fields.{Fields}
 use Rattle.table_take.specs.Splitting.{words, through}
 use Rattle.table_take.specs.Numbers.{numberOf}
 use Rattle.table_take.specs.LengthSets.{lengthsOf}

@@ -19,7 +19,7 @@ fn none(status: u8) -> Chosen
 {
     Chosen {
         status,
-        edition: Edition::ISSUE,
+        edition: Edition::issue(),
     }
 }
 
@@ -27,7 +27,7 @@ fn none(status: u8) -> Chosen
 fn take(name: &[u8], text: &[u8]) -> Chosen
     ensures { λ r. ⌜ r .status < 4 ⌝ }
 {
-    let taken = table_take::take(text);
+    let taken = take_lines::take(text);
     let edition = taken.edition;
     if taken.wrong != 0 {
         wrong::say_wrong(name, taken.line, taken.wrong, taken.due);
@@ -76,7 +76,7 @@ pub fn edition_at(i: usize) -> Chosen
 {
     let mut name = io::buffer();
     let length = os::arg(i, &mut name);
-    if ground::byte_at(&name[..length], 0) == b'-' {
+    if ground_parts::byte_at(&name[..length], 0) == b'-' {
         return none(words::misused(b"an edition is terminal, issue, or the file of a table"));
     }
     find(&name[..length])

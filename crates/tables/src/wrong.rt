@@ -11,8 +11,8 @@ fn put_row(due: usize) {
     if due == 0 {
         return;
     }
-    let tag = edition::tag_of(due - 1);
-    ground::put_hex(&mut digits, 0, tag);
+    let tag = edition_tags::tag_of(due - 1);
+    ground_digits::put_hex(&mut digits, 0, tag);
     put(&digits);
     put(b", ");
     words::put_name(STDERR_FILENO, tag);
@@ -35,22 +35,18 @@ fn put_missing(due: usize) {
 
 fn put_wrong(wrong: u8, due: usize) {
     match wrong {
-        1 => put(b"the word edition and its number are due"),
-        2 => put(b"a number from 0 to 255 is due"),
         3 => put_due(b"the row of ", due, b", is due"),
         4 => put_due(
             b"the name of row ",
             due,
             b", is due, a minus sign for each blank in it",
         ),
-        5 => put(b"required or optional is due"),
-        6 => put(b"a rule is due: digits, text, lead, code, birth, expiry, raw or text-not-d"),
-        7 => put(b"lengths are due, as 2-28 or 1,4,6-9 or none"),
-        8 => put(b"a length is more than 31"),
-        9 => put(b"a range of lengths ends before it starts"),
-        10 => put(b"the line goes on behind its last word"),
-        11 => put(b"the text goes on behind the last row"),
-        _ => put_missing(due),
+        12 => put_missing(due),
+        _ => words::put_line(
+            STDERR_FILENO,
+            b"\nthe word edition and its number are due\na number from 0 to 255 is due\n\n\nrequired or optional is due\na rule is due: digits, text, lead, code, birth, expiry, raw or text-not-d\nlengths are due, as 2-28 or 1,4,6-9 or none\na length is more than 31\na range of lengths ends before it starts\nthe line goes on behind its last word\nthe text goes on behind the last row",
+            wrong as usize,
+        ),
     }
 }
 

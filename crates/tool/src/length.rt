@@ -45,7 +45,7 @@ fn tell(room: &[u8], count: usize) -> u8
     if room.len() < count {
         return words::misused(b"length takes at most 4096 hex digits");
     }
-    let field = lengths::told(lengths::read_length(&room[..count]));
+    let field = lengths_read::told(lengths_read::read_length(&room[..count]));
     if field.number != 0 {
         return print_refusal(field.number);
     }

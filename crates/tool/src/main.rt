@@ -10,46 +10,46 @@ ghost use Prim.Native.Nat.{_<_};
 fn run(name: &[u8]) -> u8
     ensures { λ r. ⌜ r < 4 ⌝ }
 {
-    if ground::is_same(name, b"list") {
+    if ground_parts::is_same(name, b"list") {
         return list::run();
     }
-    if ground::is_same(name, b"batch") {
+    if ground_parts::is_same(name, b"batch") {
         return tool_batch::run();
     }
-    if ground::is_same(name, b"length") {
+    if ground_parts::is_same(name, b"length") {
         return length::run();
     }
-    if ground::is_same(name, b"show") {
+    if ground_parts::is_same(name, b"show") {
         return tool_show::run();
     }
-    if ground::is_same(name, b"make") {
+    if ground_parts::is_same(name, b"make") {
         return tool_make::run();
     }
-    if ground::is_same(name, b"day") {
+    if ground_parts::is_same(name, b"day") {
         return tool_day::run();
     }
-    if ground::is_same(name, b"tree") {
+    if ground_parts::is_same(name, b"tree") {
         return tool_tree::run();
     }
-    if ground::is_same(name, b"front") {
+    if ground_parts::is_same(name, b"front") {
         return tool_front::run();
     }
-    if ground::is_same(name, b"diff") {
+    if ground_parts::is_same(name, b"diff") {
         return tool_diff::run();
     }
-    if ground::is_same(name, b"plan") {
+    if ground_parts::is_same(name, b"plan") {
         return tool_plan::run();
     }
-    if ground::is_same(name, b"check-plan") {
+    if ground_parts::is_same(name, b"check-plan") {
         return tool_plan::run_check();
     }
-    if ground::is_same(name, b"fresher") {
+    if ground_parts::is_same(name, b"fresher") {
         return tool_fresher::run();
     }
-    if ground::is_same(name, b"host") {
+    if ground_parts::is_same(name, b"host") {
         return tool_host::run();
     }
-    if ground::is_same(name, b"table") {
+    if ground_parts::is_same(name, b"table") {
         return tool_table::run();
     }
     words::misused(b"there is no such command")

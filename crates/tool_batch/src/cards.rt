@@ -42,9 +42,9 @@ fn put_number(room: &mut [u8], at: usize, numbered: bool, number: u64) -> usize 
     }
     let mut digits = [0u8; 20];
     let count = io::decimal(number, &mut digits);
-    let start = ground::put(room, at, b"CARD ");
-    let end = ground::put(room, start, &digits[..count]);
-    ground::put(room, end, b"\n")
+    let start = ground_room::put(room, at, b"CARD ");
+    let end = ground_room::put(room, start, &digits[..count]);
+    ground_room::put(room, end, b"\n")
 }
 
 // Puts the listing of one card, and counts it.
@@ -60,7 +60,7 @@ fn put_card(
     let length = listing::list(edition, image, &mut text);
     let now = counts.counted(text[0] == b'A');
     let start = put_number(room, at, numbered, now.cards());
-    let size = ground::put(room, start, &text[..length]);
+    let size = ground_room::put(room, start, &text[..length]);
     Listed {
         size,
         accepted: now.accepted,

@@ -82,7 +82,7 @@ fn list_file(edition: Edition, numbered: bool, progress: bool, i: usize) -> u8
 fn word_is(i: usize, text: &[u8]) -> bool {
     let mut word = [0u8; 16];
     let length = os::arg(i, &mut word);
-    ground::is_same(&word[..length], text)
+    ground_parts::is_same(&word[..length], text)
 }
 
 fn misused() -> u8

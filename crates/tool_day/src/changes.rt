@@ -20,7 +20,7 @@ fn read_card(i: usize, position: usize, images: &mut [u8]) -> u8
         refusals::say_image(position, &image[..size]);
         return refusals::write_refusal(41, position);
     }
-    ground::put(images, position % 256 * 256, &image[..size]);
+    ground_room::put(images, position % 256 * 256, &image[..size]);
     words::DONE
 }
 
@@ -56,7 +56,7 @@ fn build_file(images: &[u8]) -> u8
     ensures { λ r. ⌜ r < 4 ⌝ }
 {
     let mut room = io::large_buffer();
-    let answer = day::build(images, &mut room);
+    let answer = day_build::build(images, &mut room);
     let refusal = answer.refusal;
     if refusal.number != 0 {
         return refusals::tell(refusal, images);
@@ -88,7 +88,7 @@ pub(crate) fn build(words: usize) -> u8
 fn refuse_add(refusal: Refusal, file: &[u8], card: &[u8]) -> u8
     ensures { λ r. ⌜ r < 4 ⌝ }
 {
-    let checked = day::count(file);
+    let checked = day_read::count(file);
     let own = checked.refusal;
     if (refusal.number == 41) & (own.number == 0) {
         refusals::say_image(refusal.place, card);
@@ -102,7 +102,7 @@ fn add_card(file: &[u8], card: &[u8]) -> u8
     ensures { λ r. ⌜ r < 4 ⌝ }
 {
     let mut room = io::large_buffer();
-    let answer = day::add(file, card, &mut room);
+    let answer = day_add::add(file, card, &mut room);
     let refusal = answer.refusal;
     if refusal.number != 0 {
         return refuse_add(refusal, file, card);

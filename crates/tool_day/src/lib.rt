@@ -12,19 +12,19 @@ ghost use Prim.Native.Nat.{_<_};
 fn run_command(name: &[u8], words: usize) -> u8
     ensures { λ r. ⌜ r < 4 ⌝ }
 {
-    if (words > 3) & ground::is_same(name, b"build") {
+    if (words > 3) & ground_parts::is_same(name, b"build") {
         return changes::build(words);
     }
-    if (words == 5) & ground::is_same(name, b"add") {
+    if (words == 5) & ground_parts::is_same(name, b"add") {
         return changes::add();
     }
-    if (words == 4) & ground::is_same(name, b"list") {
+    if (words == 4) & ground_parts::is_same(name, b"list") {
         return looks::list();
     }
-    if (words == 5) & ground::is_same(name, b"find") {
+    if (words == 5) & ground_parts::is_same(name, b"find") {
         return looks::find();
     }
-    if (words == 6) & ground::is_same(name, b"get") {
+    if (words == 6) & ground_parts::is_same(name, b"get") {
         return looks::get();
     }
     words::misused(

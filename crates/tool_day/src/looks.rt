@@ -57,7 +57,7 @@ fn show_cards(count: usize, file: &[u8]) -> u8
 fn list_cards(file: &[u8]) -> u8
     ensures { λ r. ⌜ r < 4 ⌝ }
 {
-    let answer = day::count(file);
+    let answer = day_read::count(file);
     let refusal = answer.refusal;
     if refusal.number != 0 {
         return refusals::tell(refusal, file);
@@ -81,7 +81,7 @@ pub(crate) fn list() -> u8
 fn find_number(file: &[u8], number: &[u8]) -> u8
     ensures { λ r. ⌜ r < 4 ⌝ }
 {
-    let answer = day::find(file, number);
+    let answer = day_find::find(file, number);
     let refusal = answer.refusal;
     if refusal.number != 0 {
         return refusals::tell(refusal, file);
@@ -109,7 +109,7 @@ pub(crate) fn find() -> u8
 fn get_image(file: &[u8], position: usize) -> u8
     ensures { λ r. ⌜ r < 4 ⌝ }
 {
-    let image = day::image_at(file, position);
+    let image = day_read::image_at(file, position);
     if inputs::write_file(5, image, 256) {
         words::DONE
     } else {
@@ -120,7 +120,7 @@ fn get_image(file: &[u8], position: usize) -> u8
 fn get_position(file: &[u8], position: usize) -> u8
     ensures { λ r. ⌜ r < 4 ⌝ }
 {
-    let answer = day::image_start(file, position);
+    let answer = day_read::image_start(file, position);
     let refusal = answer.refusal;
     if refusal.number != 0 {
         return refusals::tell(refusal, file);

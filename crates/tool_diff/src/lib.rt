@@ -23,7 +23,7 @@ fn put_number(n: u64) {
 
 fn put_hex(byte: u8) {
     let mut digits = [0u8; 2];
-    ground::put_hex(&mut digits, 0, byte);
+    ground_digits::put_hex(&mut digits, 0, byte);
     put(&digits);
 }
 
@@ -68,7 +68,7 @@ fn row_of(tag: u8) -> usize
 {
     let mut i: usize = 0;
     while i < 15 {
-        if edition::tag_of(i) == tag {
+        if edition_tags::tag_of(i) == tag {
             return i;
         }
         i += 1;
@@ -98,9 +98,9 @@ fn write_byte(entry: u32, first: &[u8], second: &[u8]) -> bool {
     put(b"address ");
     put_number(address as u64);
     put(b": ");
-    put_hex(ground::byte_at(first, address));
+    put_hex(ground_parts::byte_at(first, address));
     put(b", ");
-    put_hex(ground::byte_at(second, address));
+    put_hex(ground_parts::byte_at(second, address));
     io::write_all(STDOUT_FILENO, b"\n")
 }
 
@@ -150,7 +150,7 @@ fn refuse_card(which: &[u8], edition: Edition, image: &[u8]) -> u8
 fn refuse(edition: Edition, first: &[u8], second: &[u8]) -> u8
     ensures { λ r. ⌜ r < 4 ⌝ }
 {
-    let refusal = reader::places(edition, first).refusal;
+    let refusal = reader_places::places(edition, first).refusal;
     if refusal.number != 0 {
         refuse_card(b"the first card is refused", edition, first)
     } else {

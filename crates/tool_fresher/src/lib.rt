@@ -1,5 +1,5 @@
 // The command fresher EDITION FIRST SECOND: which of two cards is valid later, its family name, and by how many months.
-// What is answered is `fresher`'s. Files and words of the command line are looked at here, and nothing is written where they are bad.
+// What is answered is `fresher_cards`'s. Files and words of the command line are looked at here, and nothing is written where they are bad.
 // Where a card is refused, the answer is its own, as `kvk list` gives it, with its file named on standard error.
 use edition::Edition;
 use libc::STDERR_FILENO;
@@ -45,11 +45,11 @@ fn refuse_dates() -> u8
 fn refuse(edition: Edition, first: &[u8], second: &[u8]) -> u8
     ensures { λ r. ⌜ r < 4 ⌝ }
 {
-    let a = reader::places(edition, first).refusal;
+    let a = reader_places::places(edition, first).refusal;
     if a.number != 0 {
         return refuse_card(edition, first, 3);
     }
-    let b = reader::places(edition, second).refusal;
+    let b = reader_places::places(edition, second).refusal;
     if b.number != 0 {
         return refuse_card(edition, second, 4);
     }
@@ -104,16 +104,16 @@ fn write_card(is_second: bool, name: &[u8]) -> bool {
 fn answer<'a>(edition: Edition, first: &'a [u8], second: &'a [u8]) -> u8
     ensures { λ r. ⌜ r < 4 ⌝ }
 {
-    let fresher = fresher::compare(edition, first, second);
+    let fresher = fresher_cards::compare(edition, first, second);
     let refusal = fresher.refusal;
     if refusal.number != 0 {
         return refuse(edition, first, second);
     }
     let mut bytes = [0u8; 8];
-    fresher::write_fresher(fresher, &mut bytes);
+    fresher_bytes::write_fresher(fresher, &mut bytes);
     let count = count_months(bytes[4], bytes[5], bytes[6], bytes[7]);
     let is_told = write_months(fresher.second, count);
-    let is_named = write_card(fresher.second, fresher::name(first, second, fresher));
+    let is_named = write_card(fresher.second, fresher_cards::name(first, second, fresher));
     words::written(is_told & is_named)
 }
 

@@ -1,5 +1,5 @@
 // The command front [--fund] [--svg] FILE: the printed front of a card, with the fund name or without, as text or as a picture.
-// What is printed is `front`'s. The words of the command line are looked at here, and nothing is written where they are bad.
+// What is printed is `front_print`'s. The words of the command line are looked at here, and nothing is written where they are bad.
 // The card is read under terminal, which takes what issue takes; a card that is refused is listed as such.
 mod framed;
 mod letters;
@@ -30,7 +30,7 @@ fn print_front(content: Record, fund: bool, svg: bool) -> u8
     ensures { λ r. ⌜ r < 4 ⌝ }
 {
     let mut lines = [b' '; 112];
-    let refusal = front::print(content, fund, &mut lines);
+    let refusal = front_print::print(content, fund, &mut lines);
     if refusal.number != 0 {
         return refused(refusal.number);
     }
@@ -73,10 +73,10 @@ fn option_at(i: usize) -> u64
 {
     let mut word = [0u8; 16];
     let length = os::arg(i, &mut word);
-    if ground::is_same(&word[..length], b"--fund") {
+    if ground_parts::is_same(&word[..length], b"--fund") {
         return 1;
     }
-    if ground::is_same(&word[..length], b"--svg") {
+    if ground_parts::is_same(&word[..length], b"--svg") {
         return 2;
     }
     0

@@ -13,10 +13,10 @@ fn put_line(room: &mut [u8], bytes: &[u8], count: usize) -> usize
     let mut place = 0;
     let mut i = 0;
     while i < count {
-        place = ground::put_hex(room, place, ground::byte_at(bytes, i));
+        place = ground_digits::put_hex(room, place, ground_parts::byte_at(bytes, i));
         i += 1;
     }
-    ground::put_byte(room, place, b'\n')
+    ground_room::put_byte(room, place, b'\n')
 }
 
 // Says why a command is declined, by the first byte of the answer.

@@ -15,20 +15,33 @@ fn write_first(room: &[u8], size: usize) -> bool {
     io::write_all(STDOUT_FILENO, &room[..size])
 }
 
+// Puts a blank and a number.
+fn put_number(room: &mut [u8], at: usize, n: usize) -> usize {
+    let start = ground_room::put_byte(room, at, b' ');
+    ground_digits::put_decimal(room, start, n)
+}
+
+// Puts number, place and tag.
+fn put_cause(room: &mut [u8], at: usize, number: u8, place: usize, tag: u8) -> usize {
+    let behind_number = put_number(room, at, number as usize);
+    let behind_place = put_number(room, behind_number, place);
+    let start = ground_room::put_byte(room, behind_place, b' ');
+    ground_digits::put_hex(room, start, tag)
+}
+
+// Puts shortest, longest and the end of the line.
+fn put_ends(room: &mut [u8], at: usize, shortest: u8, longest: u8) -> usize {
+    let behind_shortest = put_number(room, at, shortest as usize);
+    let behind_longest = put_number(room, behind_shortest, longest as usize);
+    ground_room::put_byte(room, behind_longest, b'\n')
+}
+
 // Writes the line of a refusal.
 fn print_refusal(number: u8, place: usize, tag: u8, shortest: u8, longest: u8) -> bool {
     let mut room = [0u8; 32];
-    let behind_word = ground::put(&mut room, 0, b"REFUSED ");
-    let behind_number = ground::put_decimal(&mut room, behind_word, number as usize);
-    let at_place = ground::put(&mut room, behind_number, b" ");
-    let behind_place = ground::put_decimal(&mut room, at_place, place);
-    let at_tag = ground::put(&mut room, behind_place, b" ");
-    let behind_tag = ground::put_hex(&mut room, at_tag, tag);
-    let at_shortest = ground::put(&mut room, behind_tag, b" ");
-    let behind_shortest = ground::put_decimal(&mut room, at_shortest, shortest as usize);
-    let at_longest = ground::put(&mut room, behind_shortest, b" ");
-    let behind_longest = ground::put_decimal(&mut room, at_longest, longest as usize);
-    let end = ground::put(&mut room, behind_longest, b"\n");
+    let behind_word = ground_room::put(&mut room, 0, b"REFUSED");
+    let behind_cause = put_cause(&mut room, behind_word, number, place, tag);
+    let end = put_ends(&mut room, behind_cause, shortest, longest);
     write_first(&room, end)
 }
 
@@ -37,7 +50,7 @@ fn make_card(edition: Edition, text: &[u8]) -> u8
     ensures { λ r. ⌜ r < 4 ⌝ }
 {
     let mut image = [0u8; 256];
-    let content = card_text::record_of(text, edition.number);
+    let content = text_records::record_of(text, edition.number);
     let refusal = writer::write(edition, content, &mut image);
     if refusal.number != 0 {
         wrong::say_refusal(text, content, refusal);
@@ -65,7 +78,7 @@ fn make_card(edition: Edition, text: &[u8]) -> u8
 fn make(edition: Edition, text: &[u8]) -> u8
     ensures { λ r. ⌜ r < 4 ⌝ }
 {
-    let fault = card_text::check(text);
+    let fault = text_checks::check(text);
     if fault.number != 0 {
         wrong::say_fault(text, fault);
         return words::REFUSED;

@@ -27,7 +27,7 @@ fn put_number(n: usize) {
 // A byte as the documents write it.
 fn put_byte(byte: u8) {
     let mut digits = [0u8; 2];
-    ground::put_hex(&mut digits, 0, byte);
+    ground_digits::put_hex(&mut digits, 0, byte);
     put(b"'");
     put(&digits);
     put(b"'");
@@ -48,7 +48,7 @@ fn put_line(line: usize) {
 
 fn put_name(key: usize) {
     let mut room = [0u8; 20];
-    let end = card_lines::put_name(&mut room, 0, key);
+    let end = line_names::put_name(&mut room, 0, key);
     put_first(&room, end);
 }
 
@@ -65,7 +65,7 @@ fn letter_size(first: u8) -> usize {
 
 // The letter at a place of a value.
 fn put_letter(value: &[u8], place: usize) {
-    let size = letter_size(ground::byte_at(value, place));
+    let size = letter_size(ground_parts::byte_at(value, place));
     if place >= value.len() {
         return;
     }
@@ -86,7 +86,7 @@ pub(crate) fn say_fault(text: &[u8], fault: Fault) {
     match number {
         1 => put(b"no object has this name"),
         2 => put(b"an earlier line has this already"),
-        3 => put_letter(card_text::value(text, fault.key), fault.place),
+        3 => put_letter(text_entries::value(text, fault.key), fault.place),
         4 => put_name(fault.key),
         _ => put(b"the checksum is computed, and no line sets it"),
     }
@@ -101,7 +101,7 @@ pub(crate) fn say_fault(text: &[u8], fault: Fault) {
 fn row_of(tag: u8) -> usize {
     let mut row = 0;
     while row < 16 {
-        if edition::tag_of(row) == tag {
+        if edition_tags::tag_of(row) == tag {
             return row;
         }
         row += 1;
@@ -126,13 +126,13 @@ fn put_object(tag: u8) {
 
 // 3
 fn say_end(text: &[u8], first: u8, last: u8) {
-    if card::allows_first(first) {
-        put_line(card_text::line_of(text, LAST));
+    if card_ends::allows_first(first) {
+        put_line(text_entries::line_of(text, LAST));
         put(b"the last byte is ");
         put_byte(last);
         put(b", '00' is due, or 'FF' where address 0 is '82'\n");
     } else {
-        put_line(card_text::line_of(text, FIRST));
+        put_line(text_entries::line_of(text, FIRST));
         put(b"address 0 is ");
         put_byte(first);
         put(b", '82', '92' or 'A2' is due\n");
@@ -155,9 +155,9 @@ fn say_length(item: Object, refusal: Refusal) {
 // 9
 fn say_letter(item: Object, place: usize) {
     let bytes = item.bytes;
-    let byte = [ground::byte_at(&bytes, place)];
+    let byte = [ground_parts::byte_at(&bytes, place)];
     let mut room = [0u8; 2];
-    let turned = letters::to_utf8(&byte, &mut room);
+    let turned = letters_spelled::to_utf8(&byte, &mut room);
     put(b", may not have '");
     put_first(&room, turned.made);
     put(b"'\n");
@@ -167,7 +167,7 @@ fn say_letter(item: Object, place: usize) {
 fn say_object(text: &[u8], content: Record, refusal: Refusal) {
     let number = refusal.number;
     let row = row_of(refusal.tag);
-    put_line(card_text::line_of(text, row));
+    put_line(text_entries::line_of(text, row));
     put_object(refusal.tag);
     match number {
         6 => put(b", is missing\n"),

@@ -13,7 +13,7 @@ const OFFERED: usize = 300;
 
 fn write_step(word: u32) -> bool {
     let mut digits = [0u8; 2];
-    ground::put_hex(&mut digits, 0, (word % 256) as u8);
+    ground_digits::put_hex(&mut digits, 0, (word % 256) as u8);
     io::print_decimal(STDOUT_FILENO, (word / 256) as u64);
     io::write_all(STDOUT_FILENO, b" ");
     io::write_all(STDOUT_FILENO, &digits);
@@ -37,7 +37,7 @@ fn write_steps(steps: &[u32], count: usize) -> bool {
 
 fn write_refusal(refusal: Refusal) -> bool {
     let mut tag = [0u8; 2];
-    ground::put_hex(&mut tag, 0, refusal.tag);
+    ground_digits::put_hex(&mut tag, 0, refusal.tag);
     io::write_all(STDOUT_FILENO, b"REFUSED ");
     io::print_decimal(STDOUT_FILENO, refusal.number as u64);
     io::write_all(STDOUT_FILENO, b" ");

@@ -18,7 +18,7 @@ fn address_at(text: &[u8], at: usize, end: usize) -> u32 {
     let mut address: u32 = 0;
     let mut i = at;
     while i < end {
-        let byte = ground::byte_at(text, i);
+        let byte = ground_parts::byte_at(text, i);
         if byte < b'0' {
             return NONE;
         }
@@ -43,12 +43,12 @@ fn step_at(text: &[u8], at: usize, end: usize) -> u32 {
     if end - 4 < at {
         return NONE;
     }
-    if ground::byte_at(text, end - 3) != b' ' {
+    if ground_parts::byte_at(text, end - 3) != b' ' {
         return NONE;
     }
     let digits = [
-        ground::byte_at(text, end - 2),
-        ground::byte_at(text, end - 1),
+        ground_parts::byte_at(text, end - 2),
+        ground_parts::byte_at(text, end - 1),
     ];
     let mut byte = [0u8; 1];
     if !words::put_hex_word(&mut byte, &digits) {
@@ -58,7 +58,7 @@ fn step_at(text: &[u8], at: usize, end: usize) -> u32 {
     if address == NONE {
         return NONE;
     }
-    step_to(address, ground::byte_at(&byte, 0))
+    step_to(address, ground_parts::byte_at(&byte, 0))
 }
 
 // Where the line that begins at `at` ends.

@@ -19,26 +19,26 @@ fn joined(byte: u8) -> u8 {
 fn join(room: &mut [u8], at: usize, end: usize) {
     let mut i = at;
     while i < end {
-        let byte = joined(ground::byte_at(room, i));
-        ground::put_byte(room, i, byte);
+        let byte = joined(ground_parts::byte_at(room, i));
+        ground_room::put_byte(room, i, byte);
         i += 1;
     }
 }
 
 // Puts a key, with what stands before its value.
 fn put_key(room: &mut [u8], at: usize, key: usize) -> usize {
-    let start = ground::put(room, at, b",\n  \"");
-    let end = card_lines::put_name(room, start, key);
+    let start = ground_room::put(room, at, b",\n  \"");
+    let end = line_names::put_name(room, start, key);
     join(room, start, end);
-    ground::put(room, end, b"\": \"")
+    ground_room::put(room, end, b"\": \"")
 }
 
 // Puts a byte of a string.
 fn put_escape(room: &mut [u8], at: usize, byte: u8) -> usize {
     if (byte == b'"') | (byte == b'\\') {
-        return ground::put(room, at, &[b'\\', byte]);
+        return ground_room::put(room, at, &[b'\\', byte]);
     }
-    ground::put_byte(room, at, byte)
+    ground_room::put_byte(room, at, byte)
 }
 
 // Puts a text with a backslash before each quotation mark and backslash.
@@ -65,16 +65,16 @@ fn put_object(room: &mut [u8], at: usize, row: usize, item: Object) -> usize {
     }
     let start = put_key(room, at, row);
     let behind_value = put_letters(room, start, item);
-    let end = ground::put(room, behind_value, b"\"");
+    let end = ground_room::put(room, behind_value, b"\"");
     if row == 4 {
-        let words = ground::put(room, end, b",\n  \"status_in_words\": \"");
+        let words = ground_room::put(room, end, b",\n  \"status_in_words\": \"");
         let behind_words = meanings::put_status(room, words, item);
-        return ground::put(room, behind_words, b"\"");
+        return ground_room::put(room, behind_words, b"\"");
     }
     if row == 5 {
-        let words = ground::put(room, end, b",\n  \"status_addition_in_words\": \"");
+        let words = ground_room::put(room, end, b",\n  \"status_addition_in_words\": \"");
         let behind_words = meanings::put_addition(room, words, item);
-        return ground::put(room, behind_words, b"\"");
+        return ground_room::put(room, behind_words, b"\"");
     }
     end
 }
@@ -92,14 +92,14 @@ fn put_objects(room: &mut [u8], at: usize, content: Record) -> usize {
 
 fn put_byte(room: &mut [u8], at: usize, key: usize, byte: u8) -> usize {
     let start = put_key(room, at, key);
-    let end = ground::put_hex(room, start, byte);
-    ground::put(room, end, b"\"")
+    let end = ground_digits::put_hex(room, start, byte);
+    ground_room::put(room, end, b"\"")
 }
 
 fn put_edition(room: &mut [u8], number: u8) -> usize {
     match number {
-        1 => ground::put(room, 0, b"{\n  \"edition\": \"terminal\""),
-        _ => ground::put(room, 0, b"{\n  \"edition\": \"issue\""),
+        1 => ground_room::put(room, 0, b"{\n  \"edition\": \"terminal\""),
+        _ => ground_room::put(room, 0, b"{\n  \"edition\": \"issue\""),
     }
 }
 
@@ -109,8 +109,8 @@ pub(crate) fn put_json(room: &mut [u8], content: Record) -> usize {
     let behind_first = put_byte(room, behind_edition, FIRST, content.first);
     let at_free = put_key(room, behind_first, FREE);
     let behind_free = values::put_free(room, at_free, free);
-    let behind_mark = ground::put(room, behind_free, b"\"");
+    let behind_mark = ground_room::put(room, behind_free, b"\"");
     let behind_last = put_byte(room, behind_mark, LAST, content.last);
     let behind_objects = put_objects(room, behind_last, content);
-    ground::put(room, behind_objects, b"\n}\n")
+    ground_room::put(room, behind_objects, b"\n}\n")
 }

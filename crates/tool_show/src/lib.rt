@@ -80,10 +80,10 @@ fn show_file(edition: Edition, i: usize, form: u8) -> u8
 fn form_at(i: usize) -> u8 {
     let mut word = [0u8; 16];
     let length = os::arg(i, &mut word);
-    if ground::is_same(&word[..length], b"--text") {
+    if ground_parts::is_same(&word[..length], b"--text") {
         return TEXT;
     }
-    if ground::is_same(&word[..length], b"--json") {
+    if ground_parts::is_same(&word[..length], b"--json") {
         return JSON;
     }
     PEOPLE

@@ -9,10 +9,10 @@ fn put_object(room: &mut [u8], at: usize, row: usize, item: Object) -> usize {
     if item.length == 0 {
         return at;
     }
-    let behind_name = card_lines::put_name(room, at, row);
-    let start = ground::put(room, behind_name, b": ");
+    let behind_name = line_names::put_name(room, at, row);
+    let start = ground_room::put(room, behind_name, b": ");
     let end = put_value(room, start, row, item);
-    ground::put(room, end, b"\n")
+    ground_room::put(room, end, b"\n")
 }
 
 // Puts a value: dates as people write them, and what status and addition mean.
@@ -25,11 +25,11 @@ fn put_value(room: &mut [u8], at: usize, row: usize, item: Object) -> usize {
     }
     let behind = values::put_letters(room, at, item);
     if row == 4 {
-        let start = ground::put(room, behind, b", ");
+        let start = ground_room::put(room, behind, b", ");
         return meanings::put_status(room, start, item);
     }
     if row == 5 {
-        let start = ground::put(room, behind, b", ");
+        let start = ground_room::put(room, behind, b", ");
         return meanings::put_addition(room, start, item);
     }
     behind
@@ -48,12 +48,12 @@ fn put_objects(room: &mut [u8], at: usize, content: Record) -> usize {
 
 // The number that a record carries, and the name of the edition that has it.
 fn put_edition(room: &mut [u8], at: usize, number: u8) -> usize {
-    let start = ground::put(room, at, b"edition: ");
-    let end = ground::put_decimal(room, start, number as usize);
+    let start = ground_room::put(room, at, b"edition: ");
+    let end = ground_digits::put_decimal(room, start, number as usize);
     match number {
-        1 => ground::put(room, end, b", terminal\n"),
-        2 => ground::put(room, end, b", issue\n"),
-        _ => ground::put(room, end, b"\n"),
+        1 => ground_room::put(room, end, b", terminal\n"),
+        2 => ground_room::put(room, end, b", issue\n"),
+        _ => ground_room::put(room, end, b"\n"),
     }
 }
 

@@ -11,14 +11,14 @@ const LAST: usize = 18;
 
 // Puts the start of a line.
 fn put_name(room: &mut [u8], at: usize, key: usize) -> usize {
-    let behind_name = card_lines::put_name(room, at, key);
-    ground::put(room, behind_name, b": ")
+    let behind_name = line_names::put_name(room, at, key);
+    ground_room::put(room, behind_name, b": ")
 }
 
 fn put_byte(room: &mut [u8], at: usize, key: usize, byte: u8) -> usize {
     let start = put_name(room, at, key);
-    let end = ground::put_hex(room, start, byte);
-    ground::put(room, end, b"\n")
+    let end = ground_digits::put_hex(room, start, byte);
+    ground_room::put(room, end, b"\n")
 }
 
 fn put_object(room: &mut [u8], at: usize, row: usize, item: Object) -> usize {
@@ -27,7 +27,7 @@ fn put_object(room: &mut [u8], at: usize, row: usize, item: Object) -> usize {
     }
     let start = put_name(room, at, row);
     let end = values::put_letters(room, start, item);
-    ground::put(room, end, b"\n")
+    ground_room::put(room, end, b"\n")
 }
 
 fn put_objects(room: &mut [u8], at: usize, content: Record) -> usize {
@@ -46,7 +46,7 @@ pub(crate) fn put_text(room: &mut [u8], content: Record) -> usize {
     let behind_first = put_byte(room, 0, FIRST, content.first);
     let at_free = put_name(room, behind_first, FREE);
     let behind_free = values::put_free(room, at_free, free);
-    let at_last = ground::put(room, behind_free, b"\n");
+    let at_last = ground_room::put(room, behind_free, b"\n");
     let behind_last = put_byte(room, at_last, LAST, content.last);
     put_objects(room, behind_last, content)
 }

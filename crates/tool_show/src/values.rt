@@ -16,8 +16,8 @@ pub(crate) fn part(bytes: &[u8], start: usize, end: usize) -> &[u8] {
 pub(crate) fn put_letters(room: &mut [u8], at: usize, item: Object) -> usize {
     let bytes = item.bytes;
     let mut text = [0u8; 56];
-    let turned = letters::to_utf8(part(&bytes, 0, item.length as usize), &mut text);
-    ground::put(room, at, part(&text, 0, turned.made))
+    let turned = letters_spelled::to_utf8(part(&bytes, 0, item.length as usize), &mut text);
+    ground_room::put(room, at, part(&text, 0, turned.made))
 }
 
 // Puts some bytes of a value as they stand.
@@ -29,22 +29,22 @@ pub(crate) fn put_some(
     end: usize,
 ) -> usize {
     let bytes = item.bytes;
-    ground::put(room, at, part(&bytes, start, end))
+    ground_room::put(room, at, part(&bytes, start, end))
 }
 
 // Puts a birth date: day, month and year.
 pub(crate) fn put_birth(room: &mut [u8], at: usize, item: Object) -> usize {
     let behind_day = put_some(room, at, item, 0, 2);
-    let at_month = ground::put(room, behind_day, b".");
+    let at_month = ground_room::put(room, behind_day, b".");
     let behind_month = put_some(room, at_month, item, 2, 4);
-    let at_year = ground::put(room, behind_month, b".");
+    let at_year = ground_room::put(room, behind_month, b".");
     put_some(room, at_year, item, 4, 8)
 }
 
 // Puts a validity: month and year.
 pub(crate) fn put_validity(room: &mut [u8], at: usize, item: Object) -> usize {
     let behind_month = put_some(room, at, item, 0, 2);
-    let at_year = ground::put(room, behind_month, b"/20");
+    let at_year = ground_room::put(room, behind_month, b"/20");
     put_some(room, at_year, item, 2, 4)
 }
 
@@ -53,7 +53,7 @@ pub(crate) fn put_free(room: &mut [u8], at: usize, free: [u8; 12]) -> usize {
     let mut place = at;
     let mut i = 0;
     while i < 12 {
-        place = ground::put_hex(room, place, free[i]);
+        place = ground_digits::put_hex(room, place, free[i]);
         i += 1;
     }
     place

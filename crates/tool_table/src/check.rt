@@ -6,9 +6,9 @@ ghost use Prim.Native.Nat.{_<_};
 
 // Writes a row: its tag and its name.
 pub(crate) fn write_row(row: usize) {
-    let tag = edition::tag_of(row);
+    let tag = edition_tags::tag_of(row);
     let mut digits = [0u8; 2];
-    ground::put_hex(&mut digits, 0, tag);
+    ground_digits::put_hex(&mut digits, 0, tag);
     io::write_all(STDOUT_FILENO, b"row ");
     io::write_all(STDOUT_FILENO, &digits);
     io::write_all(STDOUT_FILENO, b", ");
@@ -19,25 +19,20 @@ pub(crate) fn write_row(row: usize) {
 fn write_bad(found: Finding) -> u8
     ensures { λ r. ⌜ r < 4 ⌝ }
 {
-    let clause = found.clause;
     io::write_all(STDOUT_FILENO, b"not well formed: ");
     write_row(found.row);
-    match clause {
-        1 => words::refused(b": it permits no length\n"),
-        2 => words::refused(b": it permits a length outside 1 to 28\n"),
-        3 => words::refused(b": it has to be required\n"),
-        4 => words::refused(b": its one length has to be 1\n"),
-        5 => words::refused(b": its rule has to be raw\n"),
-        6 => words::refused(b": raw is the rule of 8E alone\n"),
-        7 => words::refused(b": the one length of a birth date has to be 8\n"),
-        _ => words::refused(b": the one length of an expiry has to be 4\n"),
-    }
+    words::put_line(
+        STDOUT_FILENO,
+        b"\n: it permits no length\n: it permits a length outside 1 to 28\n: it has to be required\n: its one length has to be 1\n: its rule has to be raw\n: raw is the rule of 8E alone\n: the one length of a birth date has to be 8\n: the one length of an expiry has to be 4",
+        found.clause as usize,
+    );
+    words::refused(b"\n")
 }
 
 pub(crate) fn check(edition: Edition) -> u8
     ensures { λ r. ⌜ r < 4 ⌝ }
 {
-    let found = report::report(edition);
+    let found = report_answer::report(edition);
     let clause = found.clause;
     match clause {
         0 => words::written(io::write_all(STDOUT_FILENO, b"well formed\n")),

@@ -1,5 +1,5 @@
 // The command table: EDITION writes a table as text, check EDITION says whether it is well formed, nested INNER OUTER [OUT] whether one is nested in another.
-// What a table's text is, what is amiss and what is nested, is told by `table_text`, `report`, `nesting` and `example`; words and answers are looked at here.
+// What a table's text is, what is amiss and what is nested, is told by `put_table`, `report`, `nesting` and `example`; words and answers are looked at here.
 // An edition is terminal, issue or the file of a table, - too; of two, only one can be standard input.
 mod check;
 mod nested;
@@ -13,7 +13,7 @@ fn print(edition: Edition) -> u8
     ensures { λ r. ⌜ r < 4 ⌝ }
 {
     let mut room = io::buffer();
-    let size = table_text::put(edition, &mut room);
+    let size = put_table::put(edition, &mut room);
     words::written(io::write_all(STDOUT_FILENO, &room[..size]))
 }
 
@@ -58,10 +58,10 @@ fn run_word(word: &[u8], count: usize) -> u8
     if count == 3 {
         return run_print();
     }
-    if ground::is_same(word, b"check") & (count == 4) {
+    if ground_parts::is_same(word, b"check") & (count == 4) {
         return run_check();
     }
-    if ground::is_same(word, b"nested") & ((count == 5) | (count == 6)) {
+    if ground_parts::is_same(word, b"nested") & ((count == 5) | (count == 6)) {
         return run_nested(count == 6);
     }
     words::misused(b"table takes an edition, or check and one, or nested and two")

@@ -19,9 +19,9 @@ fn write_reading(who: &[u8], edition: Edition, image: &[u8]) {
 
 // Puts a byte in hex, and the end of the line behind the last of one. Answers the place behind it.
 fn put_cell(room: &mut [u8], at: usize, byte: u8, is_last: bool) -> usize {
-    let place = ground::put_hex(room, at, byte);
+    let place = ground_digits::put_hex(room, at, byte);
     if is_last {
-        return ground::put_byte(room, place, b'\n');
+        return ground_room::put_byte(room, place, b'\n');
     }
     place
 }
@@ -31,7 +31,7 @@ fn put_image(room: &mut [u8], image: &[u8]) {
     let mut place = 0;
     let mut i: usize = 0;
     while i < 256 {
-        place = put_cell(room, place, ground::byte_at(image, i), i % 32 == 31);
+        place = put_cell(room, place, ground_parts::byte_at(image, i), i % 32 == 31);
         i += 1;
     }
 }
@@ -61,7 +61,7 @@ fn write_card(inner: Edition, outer: Edition, to_file: bool) -> u8
     ensures { λ r. ⌜ r < 4 ⌝ }
 {
     let mut image = [0u8; 256];
-    let refusal = writer::write(inner, example::example(inner, outer), &mut image);
+    let refusal = writer::write(inner, example_card::example(inner, outer), &mut image);
     if refusal.number != 0 {
         words::say(b"no card shows it: none that the inner permits fits a template and its sums");
         return words::REFUSED;
@@ -76,24 +76,14 @@ fn write_card(inner: Edition, outer: Edition, to_file: bool) -> u8
 
 // Writes the row and the clause that fails there.
 fn write_clause(answer: Nesting) {
-    let clause = answer.clause;
     io::write_all(STDOUT_FILENO, b"no: ");
     check::write_row(answer.row);
-    match clause {
-        1 => io::write_all(
-            STDOUT_FILENO,
-            b": the inner permits a length that the outer does not\n",
-        ),
-        2 => io::write_all(
-            STDOUT_FILENO,
-            b": the inner takes a value that the outer does not\n",
-        ),
-        _ => io::write_all(
-            STDOUT_FILENO,
-            b": the outer requires it, and the inner does not\n",
-        ),
-    }
-    ;
+    words::put_line(
+        STDOUT_FILENO,
+        b"\n: the inner permits a length that the outer does not\n: the inner takes a value that the outer does not\n: the outer requires it, and the inner does not",
+        answer.clause as usize,
+    );
+    io::write_all(STDOUT_FILENO, b"\n");
 }
 
 fn write_no(inner: Edition, outer: Edition, answer: Nesting, to_file: bool) -> u8
@@ -106,7 +96,7 @@ fn write_no(inner: Edition, outer: Edition, answer: Nesting, to_file: bool) -> u
 pub(crate) fn nested(inner: Edition, outer: Edition, to_file: bool) -> u8
     ensures { λ r. ⌜ r < 4 ⌝ }
 {
-    let answer = nesting::nested(inner, outer);
+    let answer = nesting_answer::nested(inner, outer);
     let clause = answer.clause;
     match clause {
         0 => words::written(io::write_all(STDOUT_FILENO, b"yes\n")),

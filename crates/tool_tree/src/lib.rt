@@ -90,7 +90,7 @@ fn print_object(bytes: &[u8], room: &[u16], object: u16) -> bool {
     let at = word_at(room, object, 2);
     let length = word_at(room, object, 3);
     let mut digits = [0u8; 2];
-    ground::put_hex(&mut digits, 0, tag as u8);
+    ground_digits::put_hex(&mut digits, 0, tag as u8);
     print_indent(word_at(room, object, 1));
     write(&digits);
     write(b" ");
@@ -120,7 +120,7 @@ fn list_bytes(bytes: &[u8]) -> u8
     ensures { λ r. ⌜ r < 4 ⌝ }
 {
     let mut room = [0u16; 8192];
-    let answer = tree::list_tree(bytes, &mut room);
+    let answer = tree_list::list_tree(bytes, &mut room);
     if answer.number != 0 {
         return print_refusal(answer);
     }

@@ -6,7 +6,7 @@ use mathlib.Core.List.{List, _∷_, _++_}
 use borrow.Author.Tests.{le-ltb}
 use lib.ListN.{length, length-append}
 use Rattle.lengths.proofs.Laws.{field-read}
-use Rattle.tree.specs.declared.tags.Head.the-variants as H
+use Rattle.tree.specs.declared.Head.the-variants as H
 use Rattle.tree.specs.Heads.{headAt}
 use Rattle.lengths.specs.Lengths.{lengthField}
 use Rattle.tree.specs.Forest.{front, Fine}

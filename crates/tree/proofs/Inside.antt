@@ -9,9 +9,9 @@ use lib.Dec.{ltb, eqb}
 use lib.ListN.{length, getD, drop, length-drop}
 use Rattle.lengths.specs.declared.ToldLength.{ToldLength}
 use Rattle.lengths.specs.Lengths.{lengthRead}
-use Rattle.tree.specs.declared.tags.Head.{Head}
-use Rattle.tree.specs.declared.tags.Head.the-variants.{Object, Refused}
-use Rattle.tree.specs.Heads.{badTag, fieldBehind, onField, headAt}
+use Rattle.tree.specs.declared.Head.{Head}
+use Rattle.tree.specs.declared.Head.the-variants.{Object, Refused}
+use Rattle.tree.specs.Heads.{badTag, fieldBehind, onField, headAt, headFor}
 use Rattle.tree.proofs.Behind.{field-in, told-read}
 
 -- what holds on both sides of a test
@@ -81,3 +81,10 @@ module _ (s : List ℕ) (at d : ℕ) where
 pub field-behind : (s : List ℕ) → fieldBehind s .number ≡ 0 → 0 < length s → fieldBehind s .used + 1 ≤ length s
 field-behind s z p =
     omega (arith, length-drop 1 s, field-in (drop 1 s) (fieldBehind s .length) (fieldBehind s .used) (told-read (lengthRead (drop 1 s)) z) .1)
+
+-- what is told for any bytes, address and levels is what is told where they are those of a list
+pub head-for : (s : List ℕ) (at left : ℕ) → 0 < length s → at ≤ 4096 → left ≤ 6 → headFor s at left ≡ headAt s at (7 - left)
+unfolding headFor
+head-for s at left p q r =
+    let e : eqb (length s) 0 ≡ false = ne-eqb (length s) 0 (λ z. absurd (omega arith)) in
+    rw (e, le-ltb 4096 at q, le-ltb 6 left r)

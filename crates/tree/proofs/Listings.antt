@@ -6,8 +6,8 @@ use native.Mathlib.Omega.{arith}
 use mathlib.Core.Bool.{cond}
 use mathlib.Core.List.{List, [], _∷_}
 use lib.ListN.{length, drop, take, length-drop, length-take}
-use Rattle.tree.specs.declared.tags.Head.{Head}
-use Rattle.tree.specs.declared.tags.Head.the-variants as H
+use Rattle.tree.specs.declared.Head.{Head}
+use Rattle.tree.specs.declared.Head.the-variants as H
 use Rattle.tree.specs.Heads.{isList, headAt}
 use Rattle.tree.specs.Listing.{Entry, entry, Out, took, refused, onHead, above, andThen, one, run, listing, object}
 use Rattle.tree.proofs.Inside.{Inside, inside-head}

@@ -11,7 +11,7 @@ use lib.ListN.{length, drop, take, length-drop}
 use lib.Seq.{length-take-le}
 use Rattle.lengths.specs.declared.Length.the-variants as L
 use Rattle.lengths.specs.Lengths.{lengthRead, lengthTold}
-use Rattle.tree.specs.declared.tags.Head.the-variants as H
+use Rattle.tree.specs.declared.Head.the-variants as H
 use Rattle.tree.specs.Heads.{badTag, isList, headAt}
 use Rattle.tree.specs.Listing.{entry, Out, took, refused, above, before, andThen, listing}
 use Rattle.tree.proofs.Listings.{list-none, list-more}

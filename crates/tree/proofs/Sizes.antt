@@ -4,8 +4,8 @@ use native.Mathlib.Omega.{arith}
 use mathlib.Core.Bool.{Bool, true, false, cond}
 use mathlib.Core.List.{List, [], _∷_}
 use lib.ListN.{length, drop, take, length-drop, length-take, length-append}
-use Rattle.tree.specs.declared.tags.Head.{Head}
-use Rattle.tree.specs.declared.tags.Head.the-variants as H
+use Rattle.tree.specs.declared.Head.{Head}
+use Rattle.tree.specs.declared.Head.the-variants as H
 use Rattle.tree.specs.Heads.{isList, headAt}
 use Rattle.tree.proofs.Inside.{Inside, inside-head}
 use Rattle.tree.specs.Listing.{Entry, entry, Out, took, refused, onHead, above, before, andThen, one, run, listing, object}

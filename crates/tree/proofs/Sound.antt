@@ -8,8 +8,8 @@ use mathlib.Core.List.{List, [], _∷_, _++_}
 use lib.Dec.{lit<}
 use lib.ListN.{length, drop, take, length-drop, take-append-drop}
 use lib.Seq.{length-take-le, drop-drop}
-use Rattle.tree.specs.declared.tags.Head.{Head}
-use Rattle.tree.specs.declared.tags.Head.the-variants as H
+use Rattle.tree.specs.declared.Head.{Head}
+use Rattle.tree.specs.declared.Head.the-variants as H
 use Rattle.tree.specs.Heads.{isList, headAt}
 use Rattle.tree.proofs.Inside.{Inside, inside-head}
 use Rattle.tree.specs.Listing.{Entry, entry, Out, took, refused, above, before, andThen, listing, object}

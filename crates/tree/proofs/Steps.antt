@@ -7,9 +7,9 @@ use mathlib.Core.Bool.{true, false}
 use mathlib.Core.List.{List, [], _∷_, _++_, append-nil, append-assoc}
 use lib.ListN.{length, drop, take, length-drop, length-append}
 use lib.Seq.{sets, length-sets, drop-drop, drop-nil}
-use Rattle.tree.specs.declared.tags.Head.the-variants as H
-use Rattle.tree.specs.declared.readers.Scan.{Scan}
-use Rattle.tree.specs.declared.readers.Scan.the-variants as S
+use Rattle.tree.specs.declared.Head.the-variants as H
+use Rattle.tree.specs.declared.Scan.{Scan}
+use Rattle.tree.specs.declared.Scan.the-variants as S
 use Rattle.tree.specs.Heads.{isList, headAt}
 use Rattle.tree.specs.Listing.{Entry, entry, Out, took, refused, above, before, andThen, listing, object}
 use Rattle.tree.proofs.Listings.{list-none, list-more}

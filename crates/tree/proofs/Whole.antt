@@ -7,8 +7,8 @@ use mathlib.Core.List.{List}
 use borrow.Author.Tests.{lt-ltb, le-ltb, ltb-false}
 use lib.Dec.{ltb}
 use lib.ListN.{length}
-use Rattle.tree.specs.declared.readers.Scan.{Scan}
-use Rattle.tree.specs.declared.readers.Scan.the-variants as S
+use Rattle.tree.specs.declared.Scan.{Scan}
+use Rattle.tree.specs.declared.Scan.the-variants as S
 use Rattle.tree.specs.declared.TreeAnswer.{TreeAnswer}
 use Rattle.tree.specs.Listing.{Entry, Out, took, refused, listing}
 use Rattle.tree.proofs.Sizes.{Sized, sized-list}

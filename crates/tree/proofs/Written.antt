@@ -11,8 +11,8 @@ use lib.ListN.{length, drop}
 use Rattle.lengths.specs.declared.ToldLength.{ToldLength}
 use Rattle.lengths.specs.Lengths.{lengthRead, lengthTold, lengthField}
 use Rattle.lengths.proofs.Laws.{Written, read-written}
-use Rattle.tree.specs.declared.tags.Head.{Head}
-use Rattle.tree.specs.declared.tags.Head.the-variants as H
+use Rattle.tree.specs.declared.Head.{Head}
+use Rattle.tree.specs.declared.Head.the-variants as H
 use Rattle.tree.specs.Heads.{badTag, headAt, onField}
 use Rattle.tree.specs.Forest.{front, Fine}
 use Rattle.tree.specs.Trees.{Below}

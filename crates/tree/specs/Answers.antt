@@ -6,8 +6,8 @@ use mathlib.Core.List.{List, [], _∷_}
 use lib.Dec.{ltb}
 use lib.ListN.{length}
 use lib.Seq.{sets}
-use Rattle.tree.specs.declared.readers.Scan.{Scan}
-use Rattle.tree.specs.declared.readers.Scan.the-variants as S
+use Rattle.tree.specs.declared.Scan.{Scan}
+use Rattle.tree.specs.declared.Scan.the-variants as S
 use Rattle.tree.specs.declared.TreeAnswer.{TreeAnswer}
 use Rattle.tree.specs.Listing.{Entry, entry, Out, took, refused, listing}
 

@@ -7,8 +7,8 @@ use lib.Dec.{eqb, ltb}
 use lib.ListN.{length, getD, drop}
 use Rattle.lengths.specs.declared.ToldLength.{ToldLength}
 use Rattle.lengths.specs.Lengths.{lengthRead, lengthTold}
-use Rattle.tree.specs.declared.tags.Head.{Head}
-use Rattle.tree.specs.declared.tags.Head.the-variants.{Object, Refused}
+use Rattle.tree.specs.declared.Head.{Head}
+use Rattle.tree.specs.declared.Head.the-variants.{Object, Refused}
 
 -- tag '00', or its low five bits all ones
 abbrev pub badTag : ℕ → Bool
@@ -35,3 +35,11 @@ headAt s at depth =
     cond (badTag (getD s 0 0)) (Refused 50 at)
     (cond (ltb 6 depth) (Refused 53 at)
     (onField (fieldBehind s) s at))
+
+-- the same for any bytes, address and levels left: no object, told as 0 at 0, where there is no byte, the address is past 4,096, or more than six levels are left
+unfoldable pub headFor : List ℕ → ℕ → ℕ → Head
+headFor s at left =
+    cond (eqb (length s) 0) (Refused 0 0)
+    (cond (ltb 4096 at) (Refused 0 0)
+    (cond (ltb 6 left) (Refused 0 0)
+    (headAt s at (7 - left))))

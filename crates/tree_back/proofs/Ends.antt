@@ -10,7 +10,7 @@ use Rattle.ground.proofs.Lists.{true-false}
 use Rattle.ground.proofs.Stores.{stored-first}
 use Rattle.tree.specs.Trees.{Below}
 use Rattle.tree_back.specs.declared.BackAnswer.{BackAnswer}
-use Rattle.tree_back.specs.declared.objects.Glued.the-variants as G
+use Rattle.tree_back.specs.declared.Glued.the-variants as G
 use Rattle.tree_back.specs.Sources.{Those, backed, Back, wrote, small, none-such}
 use Rattle.tree_back.specs.Glue.{Glue, glued, none, glue, gluedOf, InRoom, sameTree}
 use Rattle.tree_back.proofs.WritesBack.{writes-back}

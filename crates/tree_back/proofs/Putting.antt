@@ -10,7 +10,7 @@ use lib.ListN.{length, take, set, length-append}
 use lib.Seq.{sets, length-take-le}
 use Rattle.lengths.specs.Lengths.{lengthField}
 use Rattle.ground.specs.Rooms.{Put}
-use Rattle.tree_back.specs.declared.objects.Step.the-variants as S
+use Rattle.tree_back.specs.declared.Step.the-variants as S
 use Rattle.tree_back.specs.Glue.{valueSize, objectBytes, fits, stepOf}
 use Rattle.ground.proofs.Stores.{sets-then}
 

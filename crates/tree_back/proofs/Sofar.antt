@@ -9,8 +9,8 @@ use borrow.Author.Tests.{leb-true, lt-ltb, le-ltb}
 use lib.Dec.{leb}
 use lib.ListN.{length, getD, drop, drop-of-length-le, length-append, length-drop}
 use lib.Seq.{sets, drop-cons, drop-drop}
-use Rattle.tree_back.specs.declared.objects.Step.the-variants as S
-use Rattle.tree_back.specs.declared.objects.Glued.the-variants as G
+use Rattle.tree_back.specs.declared.Step.the-variants as S
+use Rattle.tree_back.specs.declared.Glued.the-variants as G
 use Rattle.tree_back.specs.Glue.{valueSize, objectBytes, fits, stepOf, Glue, glued, none, prepend, glue, gluedOf, InRoom, GluedIn}
 use Rattle.ground.proofs.Lists.{and-left, and-right}
 use Rattle.ground.proofs.Stores.{sets-then}

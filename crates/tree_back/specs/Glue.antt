@@ -10,10 +10,10 @@ use Rattle.ground.specs.Lists.{sameList}
 use Rattle.lengths.specs.Lengths.{lengthField}
 use Rattle.tree.specs.Heads.{isList}
 use Rattle.tree.specs.Answers.{treeAnswer, treeRoom}
-use Rattle.tree_back.specs.declared.objects.Step.{Step}
-use Rattle.tree_back.specs.declared.objects.Step.the-variants as S
-use Rattle.tree_back.specs.declared.objects.Glued.{Glued}
-use Rattle.tree_back.specs.declared.objects.Glued.the-variants as G
+use Rattle.tree_back.specs.declared.Step.{Step}
+use Rattle.tree_back.specs.declared.Step.the-variants as S
+use Rattle.tree_back.specs.declared.Glued.{Glued}
+use Rattle.tree_back.specs.declared.Glued.the-variants as G
 
 -- a list takes no plain bytes
 unfoldable pub valueSize : ℕ → ℕ → ℕ

@@ -15,7 +15,7 @@ pub fn write_places(table: Places, room: &mut [u8])
     while k < 16 {
         let start = table.starts[k];
         let length = table.lengths[k];
-        place = ground::put(room, place, &[start, length]);
+        place = ground_room::put(room, place, &[start, length]);
         k += 1;
     }
 }

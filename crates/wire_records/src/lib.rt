@@ -5,8 +5,9 @@ use card::Object;
 use card::Record;
 ghost use mathlib.Core.Path.{_≡_};
 ghost use mathlib.Core.List.{[], _∷_, _++_, map};
-ghost use Prim.Native.Nat.{_+_, _≤_};
-ghost use lib.ListN.{length};
+ghost use Prim.Native.Nat.{ℕ, _+_, _≤_, _<_};
+ghost use lib.ListN.{length, getD};
+ghost use Rattle.card.specs.Content.{noObject};
 ghost use Rattle.ground.specs.Pieces.{pieces, joined};
 ghost use Rattle.ground.specs.Rooms.{Put};
 ghost use Rattle.wire_records.specs.Records.{objectFrom, lentRecord, objectBytes, recordRoom};
@@ -17,7 +18,7 @@ fn object_of(part: &[u8]) -> Object
     ensures { λ r. ⌜ r ≡ objectFrom (now (part .entry)) ⌝ }
 {
     let mut value = [0u8; 28];
-    ground::put(&mut value, 0, &part[1..]);
+    ground_room::put(&mut value, 0, &part[1..]);
     Object {
         length: part[0],
         bytes: value,
@@ -47,7 +48,7 @@ pub fn record_of(bytes: &[u8]) -> Record
         return Record::empty();
     }
     let mut free = [0u8; 12];
-    ground::put(&mut free, 0, &bytes[1..13]);
+    ground_room::put(&mut free, 0, &bytes[1..13]);
     Record {
         first: bytes[0],
         free,
@@ -63,14 +64,15 @@ fn put_object(room: &mut [u8], at: usize, item: Object) -> usize
     ensures { λ r. ⌜ r ≡ at + 29 ⌝ }
 {
     let value = item.bytes;
-    let start = ground::put_byte(room, at, item.length);
-    ground::put(room, start, &value)
+    let start = ground_room::put_byte(room, at, item.length);
+    ground_room::put(room, start, &value)
 }
 
 fn put_objects(room: &mut [u8], at: usize, content: Record) -> usize
     requires { ⌜ at + 464 ≤ length (now room) ⌝ }
     ensures { λ r. ⌜ Put (now (room .entry)) at (joined objectBytes (content .objects)) (now (room .exit)) r ⌝ }
     ensures { λ r. ⌜ r ≡ at + 464 ⌝ }
+    ensures { λ _. ⌜ ((j : ℕ) → j < 16 → length (getD (content .objects) j noObject .bytes) ≡ 28) ⌝ }
 {
     let mut place = at;
     let mut k: usize = 0;
@@ -89,19 +91,20 @@ fn put_ends(room: &mut [u8], content: Record) -> usize
     ensures { λ r. ⌜ r ≡ 14 ⌝ }
 {
     let free = content.free;
-    let behind_first = ground::put_byte(room, 0, content.first);
-    let behind_free = ground::put(room, behind_first, &free);
-    ground::put_byte(room, behind_free, content.last)
+    let behind_first = ground_room::put_byte(room, 0, content.first);
+    let behind_free = ground_room::put(room, behind_first, &free);
+    ground_room::put_byte(room, behind_free, content.last)
 }
 
-// Fills a room of 479 bytes with a record; a room of another size is left as it is.
+// Fills a room of 479 bytes with a record, which comes back from them; a room of another size is left as it is.
 pub fn write_record(content: Record, room: &mut [u8])
     ensures { λ _. ⌜ now (room .exit) ≡ recordRoom content (now (room .entry)) ⌝ }
+    ensures { λ _. ⌜ (length (now (room .entry)) ≡ 479 → lentRecord (now (room .exit)) ≡ content) ⌝ }
 {
     if room.len() != 479 {
         return;
     }
     let start = put_ends(room, content);
     let end = put_objects(room, start, content);
-    ground::put_byte(room, end, content.number);
+    ground_room::put_byte(room, end, content.number);
 }

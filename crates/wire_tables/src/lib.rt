@@ -115,7 +115,7 @@ fn put_row(room: &mut [u8], at: usize, row: Row) -> usize
     let second = ((lengths >> 16) % 256) as u8;
     let third = ((lengths >> 8) % 256) as u8;
     let fourth = (lengths % 256) as u8;
-    ground::put(
+    ground_room::put(
         room,
         at,
         &[
@@ -153,5 +153,5 @@ pub fn write_table(edition: Edition, room: &mut [u8])
         return;
     }
     let place = put_rows(room, edition);
-    ground::put_byte(room, place, edition.number);
+    ground_room::put_byte(room, place, edition.number);
 }

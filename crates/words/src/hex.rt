@@ -30,15 +30,15 @@ fn hex_value(digit: u8) -> u8
 pub fn put_hex_word(room: &mut [u8], word: &[u8]) -> bool {
     let mut at = 0;
     while at < word.len() {
-        let high = hex_value(ground::byte_at(word, at));
-        let low = hex_value(ground::byte_at(word, at + 1));
+        let high = hex_value(ground_parts::byte_at(word, at));
+        let low = hex_value(ground_parts::byte_at(word, at + 1));
         if high > 15 {
             return false;
         }
         if low > 15 {
             return false;
         }
-        ground::put_byte(room, at / 2, high * 16 + low);
+        ground_room::put_byte(room, at / 2, high * 16 + low);
         at += 2;
     }
     true

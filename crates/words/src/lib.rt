@@ -40,6 +40,20 @@ pub fn misused(text: &[u8]) -> u8
     MISUSED
 }
 
+// Writes the first bytes of a room to a file.
+pub(crate) fn put_first(file: i32, room: &[u8], size: usize) {
+    if size <= room.len() {
+        io::write_all(file, &room[..size]);
+    }
+}
+
+// Writes the line of a list with this number, counted from 0, to a file; a line has 128 bytes at most.
+pub fn put_line(file: i32, list: &[u8], number: usize) {
+    let mut room = [0u8; 128];
+    let end = line_names::put_line(&mut room, 0, list, number);
+    put_first(file, &room, end);
+}
+
 // The status of what was or was not written.
 pub fn written(is_written: bool) -> u8
     ensures { λ r. ⌜ r < 4 ⌝ }
@@ -64,9 +78,9 @@ pub fn refused(line: &[u8]) -> u8
 // The edition with this number, 1 or 2.
 pub fn edition_by(number: u64) -> Edition {
     if number == 1 {
-        Edition::TERMINAL
+        Edition::terminal()
     } else {
-        Edition::ISSUE
+        Edition::issue()
     }
 }
 

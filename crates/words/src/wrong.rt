@@ -14,7 +14,7 @@ fn put_number(n: usize) {
 // A byte as the documents write it.
 fn put_byte(byte: u8) {
     let mut digits = [0u8; 2];
-    ground::put_hex(&mut digits, 0, byte);
+    ground_digits::put_hex(&mut digits, 0, byte);
     put(b"'");
     put(&digits);
     put(b"'");
@@ -29,7 +29,7 @@ fn put_place(place: usize) {
 fn put_found(image: &[u8], place: usize) {
     put_place(place);
     put(b" is ");
-    put_byte(ground::byte_at(image, place));
+    put_byte(ground_parts::byte_at(image, place));
 }
 
 fn put_due(byte: u8) {
@@ -38,28 +38,25 @@ fn put_due(byte: u8) {
     put(b" is due");
 }
 
+// The key of the name of the object with this tag; for another tag that of the checksum.
+fn key_of(tag: u8) -> usize {
+    if tag < 0x80 {
+        return 19;
+    }
+    if tag > 0x90 {
+        return 19;
+    }
+    ground_parts::byte_at(
+        b"\x00\x01\x03\x04\x06\x07\x08\x09\x0A\x0B\x0C\x0D\x0E\x0F\x13\x02\x05",
+        (tag - 0x80) as usize,
+    ) as usize
+}
+
 // The name of the object with this tag.
 pub fn put_name(file: i32, tag: u8) {
-    match tag {
-        0x80 => io::write_all(file, b"fund name"),
-        0x81 => io::write_all(file, b"fund number"),
-        0x8F => io::write_all(file, b"office code"),
-        0x82 => io::write_all(file, b"insured number"),
-        0x83 => io::write_all(file, b"status"),
-        0x90 => io::write_all(file, b"status addition"),
-        0x84 => io::write_all(file, b"title"),
-        0x85 => io::write_all(file, b"given name"),
-        0x86 => io::write_all(file, b"name prefix"),
-        0x87 => io::write_all(file, b"family name"),
-        0x88 => io::write_all(file, b"birth date"),
-        0x89 => io::write_all(file, b"street"),
-        0x8A => io::write_all(file, b"country"),
-        0x8B => io::write_all(file, b"postal code"),
-        0x8C => io::write_all(file, b"town"),
-        0x8D => io::write_all(file, b"validity"),
-        _ => io::write_all(file, b"checksum"),
-    }
-    ;
+    let mut name = [0u8; 20];
+    let end = line_names::put_name(&mut name, 0, key_of(tag));
+    crate::put_first(file, &name, end);
 }
 
 fn put_object(tag: u8) {
@@ -102,7 +99,7 @@ fn say_head(image: &[u8], place: usize) {
     if place == 0 {
         put(b", '82', '92' or 'A2' is due");
     } else {
-        put_due(ground::byte_at(
+        put_due(ground_parts::byte_at(
             b"\x82\x13\x10\x91\x46\x0B\0\0\0\0\0\0\0\0\0\0\0\x61\x0B\x4F\x06\xD2\x76\0\0\x01\x01\x53\x01",
             place,
         ));
@@ -137,7 +134,7 @@ fn say_tag(image: &[u8], place: usize, is_behind: bool) {
 fn say_length(image: &[u8], refusal: Refusal) {
     put_object(refusal.tag);
     put(b", has length ");
-    put_number(ground::byte_at(image, refusal.place) as usize);
+    put_number(ground_parts::byte_at(image, refusal.place) as usize);
     put_place(refusal.place);
     put(b", ");
     put_number(refusal.shortest as usize);
@@ -178,7 +175,7 @@ fn say_checksum(image: &[u8], place: usize) {
         return;
     }
     if place <= image.len() {
-        put_due(card::checksum(&image[30..place]));
+        put_due(card_checksum::checksum(&image[30..place]));
     }
 }
 
@@ -187,7 +184,7 @@ fn due_length(end: usize, place: usize) -> u8 {
     if end >= 255 {
         return 0;
     }
-    let spaces = card::count_spaces(255 - end);
+    let spaces = card_ends::count_spaces(255 - end);
     if spaces <= 127 {
         return (spaces % 256) as u8;
     }
@@ -208,7 +205,7 @@ fn say_filler(image: &[u8], number: u8, place: usize) {
     put_found(image, place);
     match number {
         14 => put_due(0xC0),
-        15 => put_due(due_length(frame::check_front(image, Refusal::none()).end, place)),
+        15 => put_due(due_length(frame_front::check_front(image, Refusal::none()).end, place)),
         _ => put_due(0x20),
     }
 }
@@ -219,7 +216,7 @@ fn say_last(image: &[u8], place: usize) {
     put_found(image, place);
     if place == 254 {
         put(b", the same as at address 255 is due");
-    } else if ground::byte_at(image, 0) == 0x82 {
+    } else if ground_parts::byte_at(image, 0) == 0x82 {
         put(b", '00' or 'FF' is due");
     } else {
         put_due(0x00);
@@ -249,6 +246,6 @@ fn say_number(image: &[u8], refusal: Refusal) {
 // Says what is wrong with a card that is refused.
 pub fn say_refused(edition: Edition, image: &[u8]) {
     put(b"kvk: ");
-    say_number(image, reader::places(edition, image).refusal);
+    say_number(image, reader_places::places(edition, image).refusal);
     put(b"\n");
 }

@@ -26,11 +26,14 @@ use Rattle.card.specs.Refusing.{rowRefusal, rowsRefusal, templateRefusal, write
 use Rattle.card.specs.Writing.{recordRefusal, bufferAfter}
 use Rattle.card.specs.Rules.{entryOf}
 use Rattle.card.specs.Content.{noObject}
-use Rattle.writer.specs.Storing.{Storable}
-use Rattle.checks.proofs.Items.{claim-short}
+use Rattle.writer.specs.Storing.{Storable, Lendable, lentAfter}
+use Rattle.object_sizes.proofs.Items.{claim-short}
 use Rattle.card.proofs.Chains.{neither, table-well}
 use Rattle.ground.specs.Pieces.{pieces}
 use Rattle.wire_tables.specs.Tables.{editionFrom, noEdition, lentEdition}
+use Rattle.wire_records.specs.Records.{lentRecord}
+use Rattle.wire_records.proofs.Parts.{lent-count}
+use Rattle.checks.specs.Lending.{lentRefusal}
 use Rattle.checks.proofs.Order.{refused-size, content-order, in-order}
 
 -- ---- where no row refuses, no object claims more than 28 bytes
@@ -95,16 +98,32 @@ accepted e r n hr ho z =
       };
     }
 
--- ---- a record beside its refusal: it has its room where nothing is refused, and what the buffer then holds
-module _ (e : Edition) (r : Record) (b : List ℕ) (x : Refusal) (is : x ≡ recordRefusal e r b) where
-  pub has-room : length (e .rows) ≡ 17 → length (r .objects) ≡ 16 → x .number ≡ 0 → Storable r × (length b ≡ 256)
-  has-room hr ho z =
+-- ---- a record beside its refusal, and the bytes that it is lent as: it has its room where nothing is refused, and what the buffer then holds
+module _ (e : Edition) (r : Record) (bytes b : List ℕ) (x : Refusal) (is : x ≡ recordRefusal e r b) (lent : lentRecord bytes ≡ r) where
+  pub has-room : length bytes ≡ 479 → length (e .rows) ≡ 17 → x .number ≡ 0 → Lendable bytes × (length b ≡ 256)
+  has-room n hr z =
+      let ho = rw lent at (lent-count bytes n) in
       let k = accepted e r (length b) hr ho (ap (λ (y : Refusal). y .number) (sym is) ∙ z) in
-      (k .storable, k .sized)
+      (record { sized = n; storable = rw lent (k .storable) }, k .sized)
 
-  pub left : {after : List ℕ} → after ≡ cond (eqb (x .number) 0) (layout (contentOf r)) b → after ≡ bufferAfter e r b
+  pub left : {after : List ℕ} → after ≡ cond (eqb (x .number) 0) (layout (contentOf (lentRecord bytes))) b → after ≡ bufferAfter e r b
   unfolding bufferAfter
-  left h = rw is at h
+  left h = rw (is, lent) at h
+
+-- the same of lent bytes
+module _ (e : Edition) (bytes b : List ℕ) (x : Refusal) (is : x ≡ lentRefusal e bytes (length b)) where
+  pub lent-room : length (e .rows) ≡ 17 → x .number ≡ 0 → Lendable bytes × (length b ≡ 256)
+  unfolding lentRefusal gate
+  lent-room hr z = go (eqb (length bytes) 479) refl is
+    where
+      go : (q : Bool) → eqb (length bytes) 479 ≡ q → x ≡ gate q (refuse 20 0 0) (writeRefusal e (lentRecord bytes .number) (contentOf (lentRecord bytes)) (length b))
+          → Lendable bytes × (length b ≡ 256)
+      go true p f = has-room e (lentRecord bytes) bytes b x f refl (eqb-true (length bytes) 479 p) hr z
+      go false p f = absurd (let k = ap (λ (y : Refusal). y .number) f in omega arith)
+
+  pub lent-left : {after : List ℕ} → after ≡ cond (eqb (x .number) 0) (layout (contentOf (lentRecord bytes))) b → after ≡ lentAfter e bytes b
+  unfolding lentAfter
+  lent-left h = rw is at h
 
 -- whatever is lent as a table, its edition has seventeen rows
 pub lent-rows : (bs : List ℕ) → length (lentEdition bs .rows) ≡ 17

@@ -11,5 +11,5 @@ pub(crate) fn write_length(buffer: &mut [u8], at: usize, n: usize) -> usize
     ensures { λ r. ⌜ r ≡ at + length (lengthField n) ⌝ }
     ensures { λ _. ⌜ now (buffer .exit) ≡ sets (now (buffer .entry)) at (lengthField n) ⌝ }
 {
-    lengths::put_length(buffer, at, n as u16)
+    lengths_put::put_length(buffer, at, n as u16)
 }

@@ -12,9 +12,9 @@ pub(crate) fn write_filler(part: &mut [u8], last: u8)
 {
     let size = part.len();
     let t = size - 1;
-    let count = card::count_spaces(t);
+    let count = card_ends::count_spaces(t);
     part[0] = 0xC0;
     let start = write_length(part, 1, count);
-    let end = ground::fill(part, start, count, 0x20);
-    ground::fill(part, end, size - end, last);
+    let end = ground_room::fill(part, start, count, 0x20);
+    ground_room::fill(part, end, size - end, last);
 }

@@ -1,29 +1,29 @@
 // The template: its tag and length, the objects, the checksum.
 use crate::body;
 use crate::fields::write_length;
-use card::Record;
 ghost use mathlib.Core.Path.{_≡_};
+ghost use mathlib.Core.List.{_++_};
 ghost use Prim.Native.Nat.{_+_};
-ghost use lib.ListN.{length};
-ghost use lib.Seq.{sets};
+ghost use lib.ListN.{length, take};
 ghost use Rattle.card.specs.Content.{contentOf};
 ghost use Rattle.card.specs.Layout.{objectsOf, template};
-ghost use Rattle.writer.specs.Storing.{Storable};
+ghost use Rattle.wire_records.specs.Records.{lentRecord};
+ghost use Rattle.writer.specs.Storing.{Lendable};
 
 // Writes the template from address 30 on. Answers the place behind it.
-pub(crate) fn write_template(buffer: &mut [u8], content: Record) -> usize
-    requires { ⌜ Storable content × (length (now buffer) ≡ 256) ⌝ }
-    ensures { λ r. ⌜ r ≡ 30 + length (template (objectsOf (contentOf content))) ⌝ }
-    ensures { λ _. ⌜ now (buffer .exit) ≡ sets (now (buffer .entry)) 30 (template (objectsOf (contentOf content))) ⌝ }
+pub(crate) fn write_template(room: &mut [u8], bytes: &[u8]) -> usize
+    requires { ⌜ Lendable (now bytes) × (length (now room) ≡ 272) ⌝ }
+    ensures { λ r. ⌜ r ≡ 30 + length (template (objectsOf (contentOf (lentRecord (now (bytes .entry)))))) ⌝ }
+    ensures { λ r. ⌜ take r (now (room .exit)) ≡ take 30 (now (room .entry)) ++ template (objectsOf (contentOf (lentRecord (now (bytes .entry))))) ⌝ }
 {
-    let size = checks::objects_size(content);
-    buffer[30] = 0x60;
-    let start = write_length(buffer, 31, size + 3);
-    let end = body::write_objects(buffer, start, content);
-    buffer[end] = 0x8E;
-    buffer[end + 1] = 0x01;
+    let size = object_sizes::size_of(object_sizes::lengths_of(bytes));
+    room[30] = 0x60;
+    let start = write_length(room, 31, size + 3);
+    let end = body::write_objects(room, start, bytes);
+    room[end] = 0x8E;
+    room[end + 1] = 0x01;
     let place = end + 2;
-    let sum = card::checksum(&buffer[30..place]);
-    buffer[place] = sum;
+    let sum = card_checksum::checksum(&room[30..place]);
+    room[place] = sum;
     place + 1
 }

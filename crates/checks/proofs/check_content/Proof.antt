@@ -1,34 +1,46 @@
--- `checks::check_content` meets its contract: the edition is asked first, and the content only of a well-formed one. Assumes nothing.
-use mathlib.Core.Path.{sym, ap, _∙_}
-use Rattle.edition.specs.Rows.{formedOf}
-use Rattle.card.specs.declared.Refusal.{Refusal}
+-- `checks::check_content` meets its contract: the bytes are those of the record, and the refusal that is handed on is the edition's. Assumes nothing.
+use mathlib.Core.Path.{_≡_, ap, _∙_}
+use Prim.Native.Nat.{ℕ}
+use native.Mathlib.Omega.{arith}
+use lib.ListN.{length, length-replicate}
+use Rattle.card.specs.declared.Record.{Record}
 use Rattle.card.specs.Content.{contentOf}
-use Rattle.card.proofs.Chains.{or-pass, or-stop, table-well}
-use Rattle.checks.proofs.Order.{edition-order}
+use Rattle.card.specs.Refusing.{editionRefusal}
 use borrow.Author.Needs.{needs}
 use Rattle.checks.proofs.check_content.Statement.{statement}
 use Rattle.checks.proofs.check_content.Tie as tie
 
+slice-aggregate-write-record : tie.Need-slice-aggregate-write-record
+slice-aggregate-write-record c = search needs
+
+write-record-requires : tie.Need-write-record-requires
+write-record-requires c κs = search needs
+
 refuse-edition-requires : tie.Need-refuse-edition-requires
 refuse-edition-requires c κs = search needs
 
+long : (w : tie.After-write-record) → length (w .write-record .last .1 .0) ≡ 479
+long w = omega (arith, w .write-record .kept .1 .0, length-replicate {A = ℕ} 479 0)
+
+slice-aggregate-content-under : tie.Need-slice-aggregate-content-under
+slice-aggregate-content-under c = search needs
+
+content-under-requires : tie.Need-content-under-requires
+content-under-requires c κs = (c .before .refuse-edition .ensures, long (c .before .before .before))
+
 returns : tie.Need-returns
 returns c =
-    let t = c .before .before in
-    let a = t .before .args in
-    sym (edition-order (a .edition) (contentOf (a .content)) (t .refuse-edition .ensures) ∙ or-stop _ _ (c .if1 .taken))
-
-refuse-content-requires : tie.Need-refuse-content-requires
-refuse-content-requires c κs =
-    let t = c .before .before in
-    table-well (formedOf (t .before .args .edition)) (ap (λ (r : Refusal). r .number) (sym (t .refuse-edition .ensures)) ∙ c .if1 .left)
-
-returns-2 : tie.Need-returns-2
-returns-2 c =
-    let t = c .before .before .before in
-    let a = t .before .args in
-    c .refuse-content .ensures ∙ sym (edition-order (a .edition) (contentOf (a .content)) (t .refuse-edition .ensures) ∙ or-pass _ _ (c .before .if1 .left))
+    let w = c .before .before .before .before in
+    let s = w .before .before in
+    c .content-under .ensures ∙ ap (λ (r : Record). editionRefusal (s .args .edition) (contentOf r)) (w .write-record .ensures .1 (length-replicate {A = ℕ} 479 0))
 
 pub check-content-spec : {M : Type 1} → statement M
 check-content-spec =
-    tie.close (tie.spec refuse-edition-requires returns refuse-content-requires returns-2)
+    tie.close
+    (tie.spec
+    slice-aggregate-write-record
+    write-record-requires
+    refuse-edition-requires
+    slice-aggregate-content-under
+    content-under-requires
+    returns)

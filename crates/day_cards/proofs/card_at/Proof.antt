@@ -9,9 +9,9 @@ use Rattle.edition.specs.declared.Edition.{Edition}
 use Rattle.card.specs.declared.Reading.{Reading}
 use Rattle.card.specs.Reading.{reading}
 use Rattle.edition.specs.Tables.{terminal}
-use Rattle.day_cards.specs.Cards.{entry}
-use Rattle.day_cards.specs.Cards.{isCard, numberOf}
-use Rattle.day_cards.proofs.Padded.{number-read}
+use Rattle.day.specs.Cards.{entry}
+use Rattle.day.specs.Cards.{isCard, numberOf}
+use Rattle.day.proofs.Padded.{number-read}
 use borrow.Author.Needs.{needs}
 use Rattle.day_cards.proofs.card_at.Statement.{statement}
 use Rattle.day_cards.proofs.card_at.Tie as tie

@@ -6,8 +6,8 @@ use borrow.Author.Needs.{needs}
 use lib.ListN.{length, take, length-set}
 use lib.Seq.{take-all}
 use Rattle.card.specs.Content.{valueOf}
-use Rattle.day_cards.specs.Cards.{padded}
-use Rattle.day_cards.proofs.Padded.{length-padded, entry-more, entry-stored}
+use Rattle.day.specs.Cards.{padded}
+use Rattle.day.proofs.Padded.{length-padded, entry-more, entry-stored}
 use Rattle.day_cards.proofs.entry_of.Statement.{statement}
 use Rattle.day_cards.proofs.entry_of.Tie as tie
 

@@ -3,7 +3,7 @@ use mathlib.Core.Path.{_≡_, sym}
 use Prim.Native.Nat.{_<_}
 use native.Mathlib.Omega.{arith}
 use lib.ListN.{length}
-use Rattle.day_cards.proofs.Padded.{padded-byte, padded-blank}
+use Rattle.day.proofs.Padded.{padded-byte, padded-blank}
 use borrow.Author.Needs.{needs}
 use Rattle.day_cards.proofs.padded_at.Statement.{statement}
 use Rattle.day_cards.proofs.padded_at.Tie as tie

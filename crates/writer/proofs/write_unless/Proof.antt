@@ -1,5 +1,4 @@
 -- `writer::write_unless` meets its contract: nothing is written of a refused record, and one that is not refused has its room. Assumes nothing.
-use mathlib.Core.Path.{refl, _∙_}
 use borrow.Author.Tests.{ne-eqb}
 use borrow.Author.Needs.{needs}
 use Rattle.writer.proofs.write_unless.Statement.{statement}
@@ -9,7 +8,7 @@ returns : tie.Need-returns
 returns c = rw (ne-eqb _ _ (c .if1 .taken))
 
 write-card-requires : tie.Need-write-card-requires
-write-card-requires c κs = c .before .before .before .before .pre (c .before .if1 .left)
+write-card-requires c κs = c .before .before .before .before .before .pre (c .before .if1 .left)
 
 same-length : tie.Need-same-length
 same-length c = search needs

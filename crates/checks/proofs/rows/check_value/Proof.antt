@@ -1,43 +1,24 @@
--- `checks::rows::check_value` meets its contract: the value is the object's first bytes, and by the table of the kinds they are judged as without one. Assumes nothing.
+-- `checks::rows::check_value` meets its contract: by the table of the kinds a value is judged as without one. Assumes nothing.
 use mathlib.Core.Path.{_≡_, sym, ap, _∙_}
-use native.Mathlib.Omega.{arith}
 use mathlib.Core.List.{List}
 use Prim.Native.Nat.{ℕ}
-use lib.ListN.{length, take}
-use lib.Seq.{length-take-le}
 use Rattle.rules.specs.Values.{judged}
 use Rattle.rules.proofs.Verdicts.{told-apart}
 use Rattle.rules.specs.Kinds.{judgedBy}
 use Rattle.rules.proofs.Tables.{by-kinds}
-use Rattle.card.specs.Content.{valueOf}
 use Rattle.card.specs.Refusing.{rowRefusal}
-use Rattle.checks.proofs.Items.{value-first}
 use borrow.Author.Needs.{needs}
 use Rattle.checks.proofs.rows.check_value.Statement.{statement}
 use Rattle.checks.proofs.rows.check_value.Tie as tie
 
-cast-n : tie.Need-cast-n
-cast-n c = search needs
-
-held : (c : tie.Start) → length (c .args .item .bytes) ≡ 28
-held c = search needs
-
-array-share-prefix-value : tie.Need-array-share-prefix-value
-array-share-prefix-value c = let f = held (c .before .before .before) in omega arith
-
-slice-aggregate-judge-by : tie.Need-slice-aggregate-judge-by
-slice-aggregate-judge-by c = let f = held (c .before .before .before .before) in sym (length-take-le _ _ (omega arith))
-
 judge-by-requires : tie.Need-judge-by-requires
 judge-by-requires c κs = search needs
 
-judged-is : (c : tie.After-judge-by) → judged (c .before .before .before .before .before .args .row .rule) (valueOf (c .before .before .before .before .before .args .item)) ≡ c .judge-by .result
+judged-is : (c : tie.After-judge-by) → judged (c .before .before .before .args .row .rule) (c .before .before .before .args .value .now) ≡ c .judge-by .result
 judged-is c =
-    let s = c .before .before .before .before .before in
-    let f = held s in
-    let v = take (s .args .item .length) (s .args .item .bytes) in
-    let told = told-apart _ _ (c .judge-by .ensures) ∙ ap (λ (t : List ℕ). judgedBy t (s .args .row .rule) v) (s .pre .1) ∙ by-kinds (s .args .row .rule) v in
-    ap (judged (s .args .row .rule)) (value-first (s .args .item) (omega arith)) ∙ sym told
+    let s = c .before .before .before in
+    let v = s .args .value .now in
+    sym (told-apart _ _ (c .judge-by .ensures) ∙ ap (λ (t : List ℕ). judgedBy t (s .args .row .rule) v) (s .pre) ∙ by-kinds (s .args .row .rule) v)
 
 enum-told : tie.Need-enum-told
 enum-told c = search needs
@@ -72,9 +53,6 @@ pub check-value-spec : {M : Type 1} → statement M
 check-value-spec =
     tie.close
     (tie.spec
-    cast-n
-    array-share-prefix-value
-    slice-aggregate-judge-by
     judge-by-requires
     enum-told
     enum-known-index

@@ -4,8 +4,8 @@ use Prim.Native.Nat.{_+_, _-_, _≤_, _<_}
 use native.Mathlib.Omega.{arith}
 use lib.ListN.{length, getD, length-take}
 use Rattle.ground.proofs.Puts.{Left, left-start, left-next, left-end}
-use Rattle.reader.specs.Steps.{valuesAt}
-use Rattle.reader.proofs.Copies.{values-length}
+use Rattle.reader_steps.specs.Steps.{valuesAt}
+use Rattle.reader_steps.proofs.Copies.{values-length}
 use Rattle.differences.specs.Steps.{objectWords}
 use Rattle.differences.proofs.Single.{some-few}
 use Rattle.differences.proofs.Words.{objectsFrom, objects-next, objects-end, part-value}

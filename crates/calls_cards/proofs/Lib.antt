@@ -1,3 +1,0 @@
--- The laws of the calls.
-pub mod Renumbers
-pub mod Fills

@@ -1,0 +1,2 @@
+-- What is refused of a lent record.
+pub mod Lending

@@ -1,2 +1,0 @@
--- A card of a day, and its entry in the index.
-pub mod Cards

@@ -1,0 +1,2 @@
+-- The second half of the fixed bytes.
+pub mod Late

@@ -1,0 +1,50 @@
+-- `line_values::behind_colon`: a colon is found, or the end. Assumes nothing.
+use Rattle.card_lines.proofs.Cuts.{colon-none, colon-there}
+use borrow.Author.Needs.{needs}
+use Rattle.line_values.proofs.behind_colon.Statement.{statement}
+use Rattle.line_values.proofs.behind_colon.Tie as tie
+
+find-requires : tie.Need-find-requires
+find-requires c κs = search needs
+
+sub-result : tie.Need-sub-result
+sub-result c = search needs
+
+part-result-start : tie.Need-part-result-start
+part-result-start c = search needs
+
+part-result-end : tie.Need-part-result-end
+part-result-end c = search needs
+
+returns : tie.Need-returns
+returns c = colon-none _ _ (c .before .before .find .ensures .0) (c .before .if1 .taken)
+
+add-result : tie.Need-add-result
+add-result c = search needs
+
+sub-result-2 : tie.Need-sub-result-2
+sub-result-2 c = search needs
+
+part-result-start-2 : tie.Need-part-result-start-2
+part-result-start-2 c = search needs
+
+part-result-end-2 : tie.Need-part-result-end-2
+part-result-end-2 c = search needs
+
+returns-2 : tie.Need-returns-2
+returns-2 c = colon-there _ _ (c .before .before .find .ensures .0)
+
+pub behind-colon-spec : {M : Type 1} → statement M
+behind-colon-spec =
+    tie.close
+    (tie.spec
+    find-requires
+    sub-result
+    part-result-start
+    part-result-end
+    returns
+    add-result
+    sub-result-2
+    part-result-start-2
+    part-result-end-2
+    returns-2)

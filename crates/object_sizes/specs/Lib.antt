@@ -1,0 +1,2 @@
+-- How long objects are together.
+pub mod Sizes

@@ -1,0 +1,2 @@
+-- What the reader answers.
+pub mod Steps

@@ -1,0 +1,2 @@
+-- The characters of a rule as bits.
+pub mod Characters

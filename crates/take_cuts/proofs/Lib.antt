@@ -1,0 +1,2 @@
+-- A law of what is left at the end.
+pub mod Past
