@@ -1,6 +1,8 @@
 // The calls on a day file: each answer of `day` as one number.
 // Any bytes may be lent; what is refused of them is the day file's to say.
 // With 41 the value is the position of the card, which may be more than a place can hold.
+#![tactic(auto)]
+
 ghost use Rattle.std.specs.Prelude.{◌≡◌};
 ghost use Rattle.day.specs.Calls.{count_answer, image_answer, find_answer, add_answer, add_room, build_answer, build_room};
 ghost use Rattle.calls_days.specs.Days.{day_packed};

@@ -1,6 +1,8 @@
 // The calls on foreign cards: a length field, the tree of some bytes, and the bytes of a tree; each answer as one number.
 // Any bytes and words may be lent.
 // Nothing of our own card stands in them: no edition, no image of 256 bytes.
+#![tactic(auto)]
+
 ghost use Rattle.std.specs.Prelude.{◌≡◌};
 ghost use Rattle.lengths.specs.Lengths.{length_read, length_told};
 ghost use Rattle.tree.specs.Answers.{tree_answer, tree_room};

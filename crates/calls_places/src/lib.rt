@@ -1,6 +1,8 @@
 // The call that fills a room of 32 bytes with the places of an image's objects, under a table of 103 bytes.
 // Any table, image and room may be lent, of whatever size: what has not its size is refused with a number.
 // A refused image has no places: the room is then filled with zeros.
+#![tactic(auto)]
+
 ghost use Rattle.std.specs.Prelude.{◌≡◌};
 ghost use Rattle.wire.specs.Answers.{packed};
 ghost use Rattle.calls_cards.specs.PlaceCalls.{table_places, kvk_places, kvk_places_room};

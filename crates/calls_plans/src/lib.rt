@@ -1,6 +1,8 @@
 // The calls on a rewriting: its plan, and the check of anyone's plan; on tables, images and steps as lent bytes and words.
 // Anything may be lent: any word is a step, and what has not its size is refused with a number.
 // A table of another size is told behind the sizes of the images.
+#![tactic(auto)]
+
 ghost use Rattle.std.specs.Prelude.{◌≡◌, length};
 ghost use Rattle.calls_plans.specs.Pulling.{no_table, kvk_plan, kvk_plan_room, kvk_check_plan};
 

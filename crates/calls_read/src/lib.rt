@@ -1,6 +1,8 @@
 // The call that reads an image into a record of 479 bytes, under a table of 103 bytes.
 // Any table, image and room may be lent, of whatever size: what has not its size is refused with a number.
 // The number is told even where the room is left: 20 for the room comes before all that is amiss with the card.
+#![tactic(auto)]
+
 ghost use Rattle.std.specs.Prelude.{◌≡◌, [], ◌∷◌, ◌++◌, ◌+◌, ◌≤◌, length, get_or};
 ghost use Rattle.ground.specs.Pieces.{joined};
 ghost use Rattle.ground.specs.Rooms.{Put};

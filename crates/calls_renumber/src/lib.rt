@@ -1,6 +1,8 @@
 // The call that puts the number of a table on a record of 479 bytes, in place.
 // Any table and record may be lent, of whatever size: what has not its size is refused with a number.
 // The number is put only if the edition would write the record but for it; else the record is left as it is.
+#![tactic(auto)]
+
 ghost use Rattle.std.specs.Prelude.{◌≡◌};
 ghost use Rattle.wire.specs.Answers.{packed};
 ghost use Rattle.calls_cards.specs.Calls.{kvk_renumber, kvk_renumber_bytes};

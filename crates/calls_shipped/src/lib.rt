@@ -1,6 +1,8 @@
 // The call that fills a room with the table of a shipped edition: 1 terminal, 2 issue.
 // Any room may be lent: one that has not 103 bytes is refused with 20, whatever is asked for.
 // A refusal leaves the room as it is.
+#![tactic(auto)]
+
 ghost use Rattle.std.specs.Prelude.{◌≡◌, cond, eqb};
 ghost use Rattle.edition.specs.Tables.{terminal, issue};
 ghost use Rattle.wire.specs.Answers.{packed};

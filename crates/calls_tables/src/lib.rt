@@ -1,6 +1,8 @@
 // The call on two tables: whether the edition of one is nested in that of the other, as one number.
 // Any bytes may be lent; a table of another size, or one that is not well formed, is not nested and has nothing nested in it.
 // Nothing is refused: the clause that fails is told as the place, with number 0.
+#![tactic(auto)]
+
 ghost use Rattle.std.specs.Prelude.{◌≡◌};
 ghost use Rattle.calls_tables.specs.Nestings.{tables_nesting, packed_nesting};
 

@@ -1,6 +1,8 @@
 // The call that writes a record of 479 bytes into an image, under a table of 103 bytes.
 // Any table, record and image may be lent, of whatever size: what has not its size is refused with a number.
 // A record that is refused leaves the image as it is.
+#![tactic(auto)]
+
 ghost use Rattle.std.specs.Prelude.{◌≡◌};
 ghost use Rattle.wire.specs.Answers.{packed};
 ghost use Rattle.calls_cards.specs.Calls.{kvk_write, kvk_write_image};

@@ -1,6 +1,7 @@
 // What a card is: record, refusal and places; the rule book stands in specs/, and here the pieces that reader and writer share.
 // Each piece answers for the part that it is lent; the order of the refusals is reader's and writer's.
 // A record may claim a length past the 28 bytes that it has: its value then goes on with zeros, and no row permits it.
+#![tactic(auto)]
 
 ghost use Rattle.std.specs.Prelude.{◌≡◌};
 ghost use Rattle.card.specs.Content.{empty_record};
@@ -8,13 +9,13 @@ ghost use Rattle.card.specs.Refusals.{refuse, refuse_length, none};
 ghost use Rattle.card.specs.Places.{no_places};
 
 // An object's value is its first bytes up to the length; length 0 means absent.
-#[derive(Drop)]
+#[derive(Clone, Copy)]
 pub struct Object {
     pub length: u8,
     pub bytes: [u8; 28],
 }
 
-#[derive(Drop)]
+#[derive(Clone, Copy)]
 pub struct Record {
     // Address 0.
     pub first: u8,
@@ -29,7 +30,7 @@ pub struct Record {
 }
 
 // Shortest and longest are the ends of the row's length set with number 7, else 0. All 0: no refusal.
-#[derive(Drop)]
+#[derive(Clone, Copy)]
 pub struct Refusal {
     pub number: u8,
     pub place: usize,
@@ -39,7 +40,7 @@ pub struct Refusal {
 }
 
 // What stands where a length is due. The range of the length is the caller's to judge.
-#[derive(Drop)]
+#[derive(Clone, Copy)]
 pub enum LengthField {
     // One byte, up to 127.
     One(u8),
@@ -52,7 +53,7 @@ pub enum LengthField {
 }
 
 // What a reading gives back.
-#[derive(Drop)]
+#[derive(Clone, Copy)]
 pub struct Reading {
     pub refusal: Refusal,
     pub content: Record,
@@ -60,7 +61,7 @@ pub struct Reading {
 
 // Where the sixteen values stand in an image: the address of each value's first byte, and its length; 0 and 0 where it is
 // absent, and where the image is refused.
-#[derive(Drop)]
+#[derive(Clone, Copy)]
 pub struct Places {
     pub refusal: Refusal,
     pub starts: [u8; 16],

@@ -1,6 +1,8 @@
 // The checksum: the exclusive or of all bytes of a span.
 // Any span may be lent; which one the checksum stands for is reader's and writer's.
 // It goes by words of four bytes, and by single bytes for the odd rest.
+#![tactic(auto)]
+
 ghost use Rattle.std.specs.Prelude.{◌≡◌, ◌*◌, ◌/◌, ◌%◌, length, take};
 ghost use Rattle.std.specs.Int.Bits.{bit_xor};
 ghost use Rattle.card.specs.Layout.{xor_all};

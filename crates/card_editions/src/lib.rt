@@ -1,6 +1,8 @@
 // A table that is not well formed is refused: 2, with the tag of its first bad row.
 // Any edition may be asked about.
 // Where all rows are right and the number is 0, the tag is 0.
+#![tactic(auto)]
+
 ghost use Rattle.std.specs.Prelude.{◌≡◌};
 ghost use Rattle.edition.specs.Rows.{formed_of};
 ghost use Rattle.card.specs.Refusals.{bad_row};

@@ -1,6 +1,8 @@
 // The ends of a card: which first and last bytes it may have, and how many spaces the filler in front of the last ones.
 // Any bytes and sizes may be asked about.
 // 'FF' is a last byte behind '82' alone.
+#![tactic(auto)]
+
 ghost use Rattle.std.specs.Prelude.{◌≡◌};
 ghost use Rattle.card.specs.Rules.{first_allowed, last_allowed};
 ghost use Rattle.card.specs.Layout.{spaces};

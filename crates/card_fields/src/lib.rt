@@ -1,6 +1,8 @@
 // The length field of a template or a filler, in the two forms that a card has.
 // Any bytes may be lent; the range of the length is the caller's to judge.
 // A field of three bytes is another first byte, whatever it says.
+#![tactic(auto)]
+
 ghost use Rattle.std.specs.Prelude.{◌≡◌};
 ghost use Rattle.card.specs.Fields.{length_at, field_told, unread};
 

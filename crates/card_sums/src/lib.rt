@@ -1,6 +1,8 @@
 // 11: how long the objects of a group may be together, by where the sixteen values start and how long they are.
 // Any starts and lengths may be asked about; that they are those of a card is the caller's.
 // Where all starts are 0, as in a record, the place told is 0.
+#![tactic(auto)]
+
 ghost use Rattle.std.specs.Prelude.{◌≡◌, true, ◌&&◌, leb, get_or, ◌-◌, ◌≤◌};
 ghost use Rattle.card.specs.Sums.{group_refusal, sums_refusal, tag_before};
 ghost use Rattle.card.specs.Rules.{first_present, present, sum_fits};

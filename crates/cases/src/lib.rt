@@ -1,6 +1,8 @@
 // The parts of stored cases and of their answers, as `second/README.md` gives them.
 // Which call a case makes is for the crates that answer its kind, `cases_cards` and the others.
 // What cannot be read whole is no case: the program then writes END and stops.
+#![tactic(auto)]
+
 mod lines;
 mod parts;
 

@@ -1,6 +1,8 @@
 // The kinds R, W and N of stored cases: reading a card, writing one, putting a number on a record.
 // What a case and an answer look like is for `cases`; each function answers whether its case was whole.
 // A room is lent full of a byte that the case names, so that a byte written by mistake is seen.
+#![tactic(auto)]
+
 use libc::STDOUT_FILENO;
 
 // Answers whether the image was whole.

@@ -1,6 +1,8 @@
 // The kinds K, I, Q, A and B of stored cases: the five calls on a day file.
 // What a case and an answer look like is for `cases`; each function answers whether its case was whole.
 // A room is lent full of a byte that the case names, so that a byte written by mistake is seen.
+#![tactic(auto)]
+
 use libc::STDOUT_FILENO;
 
 const MOST: usize = 4200;

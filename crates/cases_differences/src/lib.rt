@@ -1,6 +1,8 @@
 // The kind D of stored cases: two cards side by side, and the second rebuilt from the list.
 // What a case and an answer look like is for `cases`; the function answers whether its case was whole.
 // A second card that is not rebuilt byte for byte is told in the line, and so differs from the second program's.
+#![tactic(auto)]
+
 use libc::STDOUT_FILENO;
 
 // Whether the first card, the list and what the second has make the second.

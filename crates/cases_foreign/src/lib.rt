@@ -1,6 +1,8 @@
 // The kind L of stored cases: the length field of a foreign card.
 // What a case and an answer look like is for `cases`; the function answers whether its case was whole.
 // The room is the caller's, so that one room serves all kinds.
+#![tactic(auto)]
+
 use libc::STDOUT_FILENO;
 
 // A length field. Answers whether the case was whole.

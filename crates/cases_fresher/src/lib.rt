@@ -1,6 +1,8 @@
 // The kind F of stored cases: the fresher of two cards.
 // What a case and an answer look like is for `cases`; the function answers whether its case was whole.
 // The room is lent full of a byte that no answer has there, so that one that is left is seen.
+#![tactic(auto)]
+
 use libc::STDOUT_FILENO;
 
 fn write_byte(byte: u8) {

@@ -1,6 +1,8 @@
 // The kind T of stored cases: the printed front of a record.
 // What a case and an answer look like is for `cases`; the function answers whether its case was whole.
 // The room is lent full of a byte that the case names, so that a byte written by mistake is seen.
+#![tactic(auto)]
+
 use libc::STDOUT_FILENO;
 
 fn print_front(content: &[u8], fund: usize, fill: u8, room: &mut [u8]) {

@@ -1,6 +1,8 @@
 // The kind E of stored cases: whether one table is nested in another.
 // What a case and an answer look like is for `cases`; the function answers whether its case was whole.
 // A table that is not well formed is a case like any other: its clause is told, and no tag.
+#![tactic(auto)]
+
 use libc::STDOUT_FILENO;
 
 fn decide(inner: &[u8], outer: &[u8]) {

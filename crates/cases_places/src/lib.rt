@@ -1,6 +1,8 @@
 // The kinds P and H of stored cases: the places of a card's objects, and a host's command.
 // What a case and an answer look like is for `cases`; each function answers whether its case was whole.
 // A room is lent full of a byte that the case names, so that a byte written by mistake is seen.
+#![tactic(auto)]
+
 use libc::STDOUT_FILENO;
 
 // Answers whether the case was whole.

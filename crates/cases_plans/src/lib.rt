@@ -1,6 +1,8 @@
 // The kinds S and C of stored cases: the steps of a rewriting, and the check of anyone's steps.
 // What a case and an answer look like is for `cases`; the function answers whether its case was whole.
 // Of our own plan only what is asked of every plan is told: that it has at most 257 steps and passes the check.
+#![tactic(auto)]
+
 use libc::STDOUT_FILENO;
 
 // The check of the first `count` words; 0 where there are not so many.

@@ -1,6 +1,8 @@
 // The kind Z of stored cases: calls that are lent tables, records and rooms of other sizes than theirs.
 // What a case and an answer look like is for `cases`; the function answers whether its case was whole.
 // Where a call only reads a record, the room is lent as that record, and stays as it was.
+#![tactic(auto)]
+
 use libc::STDOUT_FILENO;
 
 // Writing and printing, which read a record.

@@ -1,6 +1,8 @@
 // The kinds V, M, O and X of stored cases: sweeps, a call with each value of a byte, told by a digest of what they answer.
 // What a case and an answer look like is for `cases`; each function answers whether its case was whole.
 // Digest and checksum are made here, as `second/README.md` gives them, and not by the library.
+#![tactic(auto)]
+
 mod digest;
 mod images;
 mod others;

@@ -1,6 +1,8 @@
 // The kinds G and U of stored cases: the tree of a foreign card, and writing it back.
 // What a case and an answer look like is for `cases`; each function answers whether its case was whole.
 // A room is lent full of a byte that the case names, so that what is written by mistake is seen.
+#![tactic(auto)]
+
 ghost use Rattle.std.specs.Prelude.{◌≤◌, length};
 
 use libc::STDOUT_FILENO;

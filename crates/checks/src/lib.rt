@@ -1,6 +1,8 @@
 // What is refused of a record before the first byte is written, in the document's order, on the record's lent bytes.
 // Any edition, table, record and buffer size may be asked about. Writing is the writer's.
 // 11 is told before 4 here and behind the objects when reading: a record has no places, so its place is 0.
+#![tactic(auto)]
+
 mod rows;
 
 ghost use Rattle.std.specs.Prelude.{◌≡◌, ◌≤◌, length};

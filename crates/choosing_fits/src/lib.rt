@@ -1,6 +1,8 @@
 // Whether three lengths will do for three rows, and their sum fits.
 // Any rows and lengths may be handed over. Which of all such lengths are taken is the caller's.
 // The length 0 is that of an absent object: it will do where the row does not require it.
+#![tactic(auto)]
+
 ghost use Rattle.std.specs.Prelude.{◌≡◌, not};
 ghost use Rattle.choosing.specs.Choices.{will_do, fits};
 

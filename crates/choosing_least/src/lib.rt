@@ -1,6 +1,8 @@
 // The lengths of three objects that their rows permit and whose sum fits, of all such the ones that take the fewest bytes, or the most.
 // Any three rows may be handed over. Values are the caller's; of an object that stands in no sum the other two rows permit nothing.
 // Where no three lengths fit, each is 28, whose sum fits never: a caller that asks for the sum is refused.
+#![tactic(auto)]
+
 ghost use Rattle.std.specs.Prelude.{◌≡◌, ◌<◌};
 ghost use Rattle.choosing.specs.Choices.{three_of, chosen};
 

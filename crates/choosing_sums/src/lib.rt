@@ -1,6 +1,8 @@
 // Whether three lengths keep the sum of document 01: that of the names, or that of the town.
 // Any three lengths may be handed over. Whether a row permits a length is the caller's.
 // The sum is asked of the lengths of a card on which no other object stands, by `card_sums::check_sums`.
+#![tactic(auto)]
+
 ghost use Rattle.std.specs.Prelude.{◌≡◌};
 ghost use Rattle.choosing.specs.Choices.{placed, sum_holds};
 

@@ -1,6 +1,8 @@
 // How much three lengths weigh: the bytes that they take, or the other way round where they are to be long; what does not fit weighs most.
 // Any rows and lengths may be handed over. The least weight is looked for by the caller.
 // An absent object takes no bytes, any other two more than its length.
+#![tactic(auto)]
+
 ghost use Rattle.std.specs.Prelude.{◌≡◌, ◌≤◌};
 ghost use Rattle.choosing.specs.Choices.{size_of, size_in, weight};
 

@@ -1,6 +1,8 @@
 // Runs the cases on standard input through the calls of the C interface and writes an answer line for each.
 // Which cases, and what their answers should be, is the second program's: `second cases` and `second answer`.
 // A case that is cut off or malformed ends the run with the line END.
+#![tactic(auto)]
+
 use libc::STDOUT_FILENO;
 
 // Cards: read, written, numbered, printed; and two tables, one in the other.

@@ -1,6 +1,8 @@
 // A card added at the end of a day file.
 // Any bytes and any room may be lent; that the room is kept is the caller's.
 // The new index is the file's own with one entry more: the images that are there are read once, in the check.
+#![tactic(auto)]
+
 ghost use Rattle.std.specs.Prelude.{◌≡◌, ◌++◌, ◌∷◌, [], ◌+◌, ◌*◌, ◌≤◌, ◌<◌, length, take, drop};
 ghost use Rattle.std.proofs.lemmas.List.Edits.{sets};
 ghost use Rattle.ground.specs.Pieces.{pieces};

@@ -1,6 +1,8 @@
 // A day file built afresh from images that are laid end to end.
 // Any bytes and any room may be lent; that the room is kept is the caller's.
 // More than 200 images are all read first: the position of one that is refused is told before the 43.
+#![tactic(auto)]
+
 ghost use Rattle.std.specs.Prelude.{◌≡◌, ◌*◌, ◌/◌, ◌≤◌, length, take};
 ghost use Rattle.day.specs.Files.{index_bytes};
 ghost use Rattle.day.specs.Calls.{laid_images, build_refusal, build_answer, build_room};

@@ -1,6 +1,8 @@
 // A card of a day: whether an image is read under terminal, and its entry in the index.
 // Any image and position may be lent; where the entry goes is the caller's.
 // An image that is refused has an entry too, that of no number: whether it is accepted has to be looked at.
+#![tactic(auto)]
+
 ghost use Rattle.std.specs.Prelude.{◌≡◌, ◌<◌, get_or};
 ghost use Rattle.card.specs.Content.{value_of};
 ghost use Rattle.day.specs.Cards.{is_card, number_of, padded, entry};
@@ -9,7 +11,7 @@ use card::Object;
 use edition::Edition;
 
 // Whether an image is accepted, and its entry.
-#[derive(Drop)]
+#[derive(Clone, Copy)]
 pub struct Card {
     pub accepted: bool,
     pub entry: [u8; 14],

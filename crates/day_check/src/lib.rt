@@ -1,6 +1,8 @@
 // The check of a whole day file: its length, count and trailer, every image, and the index.
 // Any bytes may be lent.
 // The index is made anew from the images and compared, so that it is that of the images, in order and whole, wherever nothing is refused.
+#![tactic(auto)]
+
 ghost use Rattle.std.specs.Prelude.{◌≡◌};
 ghost use Rattle.day.specs.Files.{file_refusal};
 

@@ -1,6 +1,8 @@
 // A number looked up in a day file.
 // Any bytes may be lent as a file or a number.
 // The search is in the file's own index, which is checked first: then it is in order, and that of the images.
+#![tactic(auto)]
+
 ghost use Rattle.std.specs.Prelude.{◌≡◌};
 ghost use Rattle.day.specs.Calls.{find_answer};
 

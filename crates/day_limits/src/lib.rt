@@ -1,6 +1,8 @@
 // What is refused of a day file by its numbers alone: a position past the last card, one card more, a room that is too small.
 // Any numbers may be lent; that they are those of a file is the caller's to know.
 // One card more is refused for the 200 that are there before the room is looked at.
+#![tactic(auto)]
+
 ghost use Rattle.std.specs.Prelude.{◌≡◌};
 ghost use Rattle.day.specs.Calls.{past_refusal, more_refusal, room_refusal};
 

@@ -1,6 +1,8 @@
 // Images that are too many for a day file: each is read before they are refused for being too many.
 // Any bytes may be lent; what is left behind the last whole image is not looked at.
 // The first image that is refused is told, with its position, before the 43.
+#![tactic(auto)]
+
 ghost use Rattle.std.specs.Prelude.{◌≡◌, ◌*◌, ◌≤◌, length};
 ghost use Rattle.card.specs.Refusals.{refuse, or_else};
 ghost use Rattle.ground.specs.Pieces.{pieces};

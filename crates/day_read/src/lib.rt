@@ -1,6 +1,8 @@
 // A day file read: how many images it has, and where the one at a position stands.
 // Any bytes and any position may be lent; a place is one in the bytes that were lent.
 // Each call checks the whole file, every image and the index, before it answers.
+#![tactic(auto)]
+
 ghost use Rattle.std.specs.Prelude.{◌≡◌};
 ghost use Rattle.day.specs.Calls.{count_answer, image_refusal, image_answer, image_at};
 

@@ -1,6 +1,8 @@
 // The position that the index of a day file tells of a number, found by halving.
 // Any bytes may be lent as an index or a number. That the entries are in order, without which halving may pass one by, is the caller's to know.
 // A number that is not 6 to 12 digits is told as one that no entry has: the answer is then how many entries there are.
+#![tactic(auto)]
+
 ghost use Rattle.std.specs.Prelude.{◌≡◌, ◌/◌, ◌≤◌, ◌<◌, length};
 ghost use Rattle.day.specs.Cards.{entry};
 ghost use Rattle.day.specs.Index.{halved, told_at};

@@ -1,6 +1,8 @@
 // The count that the trailer of a day file tells, the first of two refusals, and an answer of a refusal and a value.
 // Any bytes, refusals and values may be lent. Whether the bytes are a day file at all is the caller's to check.
 // The count is read of any bytes: of fewer than four it is made of the first byte, and of none it is 0.
+#![tactic(auto)]
+
 ghost use Rattle.std.specs.Prelude.{◌≡◌, ◌-◌, ◌<◌};
 ghost use Rattle.card.specs.Refusals.{or_else};
 ghost use Rattle.day.specs.Files.{count_in};

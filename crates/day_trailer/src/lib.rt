@@ -1,6 +1,8 @@
 // The trailer of a day file: whether one fits its file, and a file closed with its index and trailer.
 // Any bytes, count and room may be lent; that the index is that of the images is the caller's to know.
 // A room is closed as a whole or not at all: too many images, or an index or a room of another size, leave it as it is.
+#![tactic(auto)]
+
 ghost use Rattle.std.specs.Prelude.{◌≡◌, ◌++◌, ◌+◌, ◌*◌, ◌≤◌, length};
 ghost use Rattle.std.proofs.lemmas.List.Edits.{sets};
 ghost use Rattle.day.specs.Files.{trailer, size_of, fits, closed};

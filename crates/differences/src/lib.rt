@@ -1,6 +1,8 @@
 // Two cards side by side: the exact differences of two images under one edition, tag by tag and then by address.
 // Any edition and images may be lent; which card is the first, and what is done about a difference, is the caller's.
 // The checksum is not compared, since it follows from the rest; at L = 93 the last byte is listed once, by address 255.
+#![tactic(auto)]
+
 mod entries;
 mod spots;
 
@@ -12,7 +14,7 @@ use edition::Edition;
 
 // The list: at most sixteen objects and fourteen addresses, and 0 behind them. An entry is its kind times 65536, its tag times
 // 256 and its place; kinds 1 absent in the first, 2 absent in the second, 3 lengths, 4 first differing index, 5 byte at an address.
-#[derive(Drop)]
+#[derive(Clone, Copy)]
 pub struct Differences {
     pub refusal: Refusal,
     pub count: usize,

@@ -1,6 +1,7 @@
 // An edition: what each of the seventeen rows asks of its object, in card order; and the two that are shipped.
 // Any rows may stand in one. Whether they are well formed is told by `formed`, and asked by reader and writer before anything else.
 // A length set is a number whose bit n permits the length n; the row of the checksum is the seventeenth, and has no other form.
+#![tactic(auto)]
 
 ghost use Rattle.std.specs.Prelude.{◌≡◌, true, false};
 ghost use Rattle.edition.specs.Rows.{set_formed, by_rule, row_formed, formed_of, formed_told};
@@ -9,7 +10,7 @@ ghost use Rattle.edition.specs.Tables.{terminal, issue};
 use rules::Rule;
 
 // The bit n of lengths is set where the length n is permitted.
-#[derive(Drop)]
+#[derive(Clone, Copy)]
 pub struct Row {
     pub required: bool,
     pub rule: Rule,
@@ -17,14 +18,14 @@ pub struct Row {
 }
 
 // The number is 1 to 255; every record carries that of the edition that it was read under.
-#[derive(Drop)]
+#[derive(Clone, Copy)]
 pub struct Edition {
     pub rows: [Row; 17],
     pub number: u8,
 }
 
 // Whether an edition is well formed, or its first row that is not; that its number is 0 is told if all rows are right.
-#[derive(Drop)]
+#[derive(Clone, Copy)]
 pub enum Formed {
     Well,
     Bad(usize),

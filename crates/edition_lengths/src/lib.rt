@@ -1,6 +1,8 @@
 // A set of lengths, kept in the bits of one number: whether a length is in it, its shortest and its longest.
 // Any number may be asked about; whether it is the set of a well_formed row is the edition's.
 // 0 is no length; the shortest of the empty set is 32, its longest 0.
+#![tactic(auto)]
+
 ghost use Rattle.std.specs.Prelude.{◌≡◌};
 ghost use Rattle.edition.specs.Sets.{permitted, shortest_of, longest_of};
 

@@ -1,6 +1,8 @@
 // The tag of each row.
 // Any row may be asked about.
 // Past the last row the tag is 0, which no object has.
+#![tactic(auto)]
+
 ghost use Rattle.std.specs.Prelude.{◌≡◌};
 ghost use Rattle.edition.specs.Rows.{tag_of};
 

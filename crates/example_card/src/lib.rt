@@ -1,6 +1,8 @@
 // A card that shows that one edition is not nested in another: the inner takes it, and the outer does not.
 // Any two editions may be handed over. Whether there is such a card is for `writer::write` to say: the inner writes the record exactly where there is one.
 // Where the inner is nested in the outer, or one is not well formed, there is no such card: the record is the empty one, which no edition writes.
+#![tactic(auto)]
+
 ghost use Rattle.std.specs.Prelude.{◌≡◌};
 ghost use Rattle.example.specs.Cards.{example_of};
 

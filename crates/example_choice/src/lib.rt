@@ -1,6 +1,8 @@
 // Of the cards whose first rows are as long as can be the one with as few such rows as give the template its 70 bytes.
 // Any two editions and any answer on nesting may be handed over. Whether a row of an object is told is the caller's to ask.
 // Where no number of rows is enough, all 16 are long, and the card is short all the same.
+#![tactic(auto)]
+
 ghost use Rattle.std.specs.Prelude.{◌≡◌};
 ghost use Rattle.card.specs.Content.{record_of};
 ghost use Rattle.example.specs.Cards.{chosen_card};

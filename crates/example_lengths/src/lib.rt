@@ -1,6 +1,8 @@
 // The length of one row's object on the card, chosen together with those that stand in a sum with it.
 // Any rows, any row number and any number of long rows may be handed over. The value of that length is the caller's.
 // Past the last row the answer is that of a row that permits no length.
+#![tactic(auto)]
+
 ghost use Rattle.std.specs.Prelude.{◌≡◌, get_or};
 ghost use Rattle.edition.specs.Rows.{no_row};
 ghost use Rattle.example.specs.Cards.{three_at, length_at};

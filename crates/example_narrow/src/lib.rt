@@ -1,6 +1,8 @@
 // What is asked of the object of a row: the clause, and at the row told the inner row narrowed to what shows it: a length that the outer lacks, a value that it does not take, or absent.
 // Any two rows and any clause may be handed over. Which row is told is the caller's.
 // Beside the rule that leaves D out the length is 1, since only the single D is not taken by it.
+#![tactic(auto)]
+
 ghost use Rattle.std.specs.Prelude.{◌≡◌, cond};
 ghost use Rattle.example.specs.Cards.{part_of, narrow};
 

@@ -1,6 +1,8 @@
 // The sixteen objects of a card of which so many of the first rows are as long as can be, the one at the row told showing the clause.
 // Any rows, any answer on nesting and any number of long rows may be handed over. What else stands on the card is the caller's.
 // Where no row of an object is told, the objects are made all the same, and show nothing.
+#![tactic(auto)]
+
 ghost use Rattle.std.specs.Prelude.{◌≡◌, map};
 ghost use Rattle.card.specs.Content.{object_of};
 ghost use Rattle.example.specs.Cards.{values_of};

@@ -1,6 +1,8 @@
 // The inner edition's rows, the one told narrowed to what shows the clause told: a length that the outer lacks, a value that it does not take, or absent.
 // Any rows and any answer on nesting may be handed over. Which lengths are chosen of the rows is the caller's.
 // Where no row is told, the rows are the inner's as they are.
+#![tactic(auto)]
+
 ghost use Rattle.std.specs.Prelude.{◌≡◌};
 ghost use Rattle.example.specs.Cards.{rows_for};
 

@@ -1,6 +1,8 @@
 // Which rows stand in a sum, the first row of it, the row's place in it, and of three lengths the one at a place.
 // Any row number and any place may be handed over. The lengths themselves are the caller's.
 // A row that stands in no sum is its own first row, and has the third place.
+#![tactic(auto)]
+
 ghost use Rattle.std.specs.Prelude.{◌≡◌, ◌≤◌};
 ghost use Rattle.example.specs.Cards.{grouped, start_of, place_of, by_place};
 

@@ -1,6 +1,8 @@
 // The object of one row on the card: so many bytes of the inner rule, and where a value is to show the clause, one that the outer rule does not take.
 // Any two rows, any clause and any length may be handed over. Which length the row permits is the caller's.
 // A length above 28 is cut to 28, since an object has no more bytes.
+#![tactic(auto)]
+
 ghost use Rattle.std.specs.Prelude.{◌≡◌, ◌≤◌};
 ghost use Rattle.card.specs.Content.{object_of};
 ghost use Rattle.example.specs.Cards.{at_most, sample_for, spelled, value_for};

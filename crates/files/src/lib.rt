@@ -1,6 +1,8 @@
 // What programs share: a file opened by its name, a file written all or nothing, an edition by its name, and the one that a listing is read under.
 // Which words the command line has, and what is read or written, is the caller's. What fails is said on standard error, by its name.
 // "-" names standard input and standard output; a file that is written appears whole under its name, or not at all, even where the plug is pulled.
+#![tactic(auto)]
+
 mod words;
 
 use libc::{STDIN_FILENO, STDOUT_FILENO};

@@ -1,6 +1,8 @@
 // The template's length field: where it is wrong, and where it puts the template.
 // Any bytes may be lent; what is refused, and in which order, is the caller's.
 // Start and end are told of a wrong field too: they are those that its bytes say.
+#![tactic(auto)]
+
 ghost use Rattle.std.specs.Prelude.{◌≡◌};
 ghost use Rattle.card.specs.Frame.{field_wrong, field_of};
 ghost use Rattle.frame.specs.Checks.{span_of};

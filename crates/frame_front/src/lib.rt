@@ -1,6 +1,8 @@
 // What is refused before the objects, in the document's order; else where they start and end.
 // Any bytes may be lent. The refusal of the edition is the caller's: it is handed in.
 // It is told between 1 and 3, so a card of another size is refused with 1 under any edition.
+#![tactic(auto)]
+
 ghost use Rattle.std.specs.Prelude.{◌≡◌, length};
 ghost use Rattle.card.specs.Frame.{field_wrong, field_of};
 ghost use Rattle.card.specs.Reading.{front_refusal};

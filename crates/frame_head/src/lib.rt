@@ -1,6 +1,8 @@
 // The fixed bytes of addresses 0 to 28.
 // Any bytes may be lent; what the first of them may be, and what a wrong one is refused with, is the caller's.
 // Right bytes are looked at many together, and only where one is wrong byte by byte.
+#![tactic(auto)]
+
 ghost use Rattle.std.specs.Prelude.{◌≡◌, true, ◌≤◌, length};
 ghost use Rattle.card.specs.Frame.{head_end};
 ghost use Rattle.frame.specs.Checks.{head_in};

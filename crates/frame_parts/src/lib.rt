@@ -1,6 +1,8 @@
 // The number of the part behind the template in which a byte lies.
 // Any size and place may be given; whether the byte there is wrong is the caller's to say.
 // A part that no card has is told as 0, and a place behind it as 17.
+#![tactic(auto)]
+
 ghost use Rattle.std.specs.Prelude.{◌≡◌, ◌-◌, ◌≤◌};
 ghost use Rattle.card.specs.Frame.{tail_part};
 ghost use Rattle.frame.specs.Checks.{part_in};

@@ -1,6 +1,8 @@
 // How many bytes at the head of a part are one byte.
 // Any part and any byte may be lent; which byte it should be is the caller's.
 // A part of that byte alone is looked at many bytes together, and only where another stands byte by byte.
+#![tactic(auto)]
+
 ghost use Rattle.std.specs.Prelude.{◌≡◌, eqb, length, replicate};
 ghost use Rattle.ground.specs.Lists.{agree};
 

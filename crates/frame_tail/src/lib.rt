@@ -1,6 +1,8 @@
 // How far the bytes behind the template are as they must be: the filler, then the last byte or bytes.
 // Any bytes may be lent; what a wrong one is refused with is the caller's.
 // Byte 255 is held to be right: the byte before it is compared with it where the filler is followed by two.
+#![tactic(auto)]
+
 ghost use Rattle.std.specs.Prelude.{◌≡◌, ◌∷◌, ◌≤◌, length};
 ghost use Rattle.ground.specs.Lists.{agree};
 ghost use Rattle.lengths.specs.Lengths.{length_field};

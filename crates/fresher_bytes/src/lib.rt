@@ -1,6 +1,8 @@
 // A comparison as eight bytes.
 // Any comparison and any room may be lent. What the bytes mean is said where they are defined.
 // A room of another size than 8 is left as it is.
+#![tactic(auto)]
+
 ghost use Rattle.std.specs.Prelude.{◌≡◌, cond, length};
 ghost use Rattle.fresher.specs.Bytes.{twos, fresher_bytes, fresher_room};
 

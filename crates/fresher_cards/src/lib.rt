@@ -1,6 +1,8 @@
 // The fresher of two cards: which is valid later, by how many months, and its family name as a part of its image, not copied.
 // Any edition and any two images may be lent; whether "later" is still valid today is the caller's to ask: no date is looked at but the cards'.
 // With a refusal the card named is the first, the distance 0 and the part empty. `name` cuts whatever images it is lent with an answer.
+#![tactic(auto)]
+
 ghost use Rattle.std.specs.Prelude.{◌≡◌};
 ghost use Rattle.fresher.specs.Comparing.{fresher_of, name_of};
 

@@ -1,6 +1,8 @@
 // One of two cards that are compared: its refusal, its validity in months, and where its family name stands.
 // Any edition and image may be lent. Which card is the fresher is `fresher_weigh`'s.
 // Of an image that is refused all but the refusal is 0.
+#![tactic(auto)]
+
 ghost use Rattle.std.specs.Prelude.{◌≡◌, true, false};
 ghost use Rattle.edition.specs.Rows.{by_rule};
 ghost use Rattle.fresher.specs.Comparing.{expires, card_of};

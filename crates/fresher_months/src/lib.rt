@@ -1,6 +1,8 @@
 // The months of a validity, and how far two of them are apart.
 // Any bytes and any two numbers of months may be lent. Whether a validity is one is the reader's to say.
 // Bytes that are no digits have months too: what is below '0' counts 0.
+#![tactic(auto)]
+
 ghost use Rattle.std.specs.Prelude.{◌≡◌, ◌+◌, ◌*◌, ◌-◌, ◌≤◌, pos, ◌-ℤ◌};
 ghost use Rattle.fresher.specs.Comparing.{digit_at, months_of};
 

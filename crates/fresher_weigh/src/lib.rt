@@ -1,6 +1,8 @@
 // Two cards weighed against each other: the one that is valid later, and by how many months.
 // Any two cards may be lent, also such as no image has. Where they come from is the caller's.
 // With a refusal the card named is the first, the distance 0 and the part empty.
+#![tactic(auto)]
+
 ghost use Rattle.std.specs.Prelude.{◌≡◌, cond};
 ghost use Rattle.fresher.specs.Comparing.{unweighed, later, weighed};
 

@@ -1,6 +1,8 @@
 // What a front is refused with before any line is written.
 // Any record and any size of a room may be asked about. Printing is `front_print`'s.
 // What writing under terminal would refuse is told before the room's size, and that before 30, 31 and 32.
+#![tactic(auto)]
+
 ghost use Rattle.std.specs.Prelude.{◌≡◌};
 ghost use Rattle.card.specs.Content.{content_of};
 ghost use Rattle.front.specs.Refusing.{lines_refusal, print_refusal};

@@ -1,6 +1,8 @@
 // The fields of a front: a value put into its places with blanks behind it, and how much of a line names and a part take.
 // Any room, place and object may be lent. Which fields a line has is the caller's.
 // Of a value that is longer than its places the first bytes are put; a field of more than 28 places is not put at all.
+#![tactic(auto)]
+
 ghost use Rattle.std.specs.Prelude.{◌≡◌, cond, leb, ltb, ◌+◌, ◌≤◌, length};
 ghost use Rattle.ground.specs.Rooms.{room_with, behind_put, Put};
 ghost use Rattle.card.specs.Content.{value_of};

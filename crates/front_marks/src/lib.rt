@@ -1,6 +1,8 @@
 // Whether a printed value has an underscore.
 // Any record may be lent, also one that claims more than its bytes. What an underscore is answered with is the caller's.
 // What a record claims past its bytes is 0, and no underscore, so only its bytes are looked at.
+#![tactic(auto)]
+
 ghost use Rattle.std.specs.Prelude.{◌≡◌, cond, ltb, ◌∷◌, ◌≤◌, drop};
 ghost use Rattle.ground.specs.Lists.{among};
 ghost use Rattle.card.specs.Content.{value_of, content_of};

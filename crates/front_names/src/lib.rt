@@ -1,6 +1,8 @@
 // The two name lines of a front.
 // Any room, place and record may be lent. Whether the record has a front is the caller's to ask.
 // All names stand on the first line, if it holds them; else the family name alone is on the second. Forenames longer than a line put nothing.
+#![tactic(auto)]
+
 ghost use Rattle.std.specs.Prelude.{◌≡◌, ◌++◌, ◌+◌, ◌≤◌, length};
 ghost use Rattle.ground.specs.Rooms.{room_with, behind_put, Put};
 ghost use Rattle.card.specs.Content.{value_of, content_of};

@@ -1,6 +1,8 @@
 // The fourth line of a front: fund number, insured number, status, addition and validity.
 // Any room, place and record may be lent. Whether the record has a front is the caller's to ask.
 // A value that is longer than its places is cut there, so the line has 28 characters whatever it is made of.
+#![tactic(auto)]
+
 ghost use Rattle.std.specs.Prelude.{◌≡◌, ◌+◌, ◌≤◌, length};
 ghost use Rattle.ground.specs.Rooms.{room_with, behind_put, Put};
 ghost use Rattle.card.specs.Content.{content_of};

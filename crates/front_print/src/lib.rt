@@ -1,6 +1,8 @@
 // The printed front of a card: four lines of 28 characters, in both layouts, from the record.
 // Any record and room may be lent. Which layout is wanted, and the printer's letters, are the caller's.
 // What writing under terminal would refuse is told before the room's size; the lines fill the room with no line ends.
+#![tactic(auto)]
+
 ghost use Rattle.std.specs.Prelude.{◌≡◌, length};
 ghost use Rattle.card.specs.Content.{content_of};
 ghost use Rattle.front.specs.Lines.{lines_of, end_to_end};

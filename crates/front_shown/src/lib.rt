@@ -1,6 +1,8 @@
 // What is printed of an addition and of a status.
 // Any object may be lent, also one that claims more than its bytes. Whether a card has a front is the caller's to ask.
 // An addition that is none of the eighteen single signs is shown as a blank, which is no sign.
+#![tactic(auto)]
+
 ghost use Rattle.std.specs.Prelude.{◌≡◌};
 ghost use Rattle.card.specs.Content.{value_of};
 ghost use Rattle.front.specs.Lines.{sign_of, addition_sign, status_shown};

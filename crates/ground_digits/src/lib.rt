@@ -1,6 +1,8 @@
 // Numbers put into a room as digits: a byte in hex, a number in decimal.
 // Any room and place may be lent. Whether it fits is the caller's to know: what does not fit is not put at all.
 // In decimal only the last three digits are put, where a number has more.
+#![tactic(auto)]
+
 ghost use Rattle.std.specs.Prelude.{◌≡◌, ◌<◌};
 ghost use Rattle.ground.specs.Rooms.{room_with, behind_put, hex_digit, hex, digit, decimal};
 

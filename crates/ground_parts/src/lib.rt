@@ -1,6 +1,8 @@
 // Parts that are read: the byte at a place, how far two parts agree, whether they are the same.
 // Any parts and places may be lent.
 // The byte past the end of a part is 0.
+#![tactic(auto)]
+
 ghost use Rattle.std.specs.Prelude.{◌≡◌, length, get_or};
 ghost use Rattle.ground.specs.Lists.{agree, same_list};
 

@@ -1,6 +1,8 @@
 // Bytes put into a room: a run, one byte, one byte many times; the answer is the place behind what was put.
 // Any room and place may be lent. Whether a put fits is the caller's to know.
 // What does not fit is not put at all, and the answer is then the place that was given.
+#![tactic(auto)]
+
 ghost use Rattle.std.specs.Prelude.{◌≡◌, [], ◌∷◌, leb, ◌+◌, ◌≤◌, length, replicate};
 ghost use Rattle.std.proofs.lemmas.List.Edits.{sets};
 ghost use Rattle.ground.specs.Rooms.{room_with, behind_put};

@@ -6,7 +6,7 @@ use card::Refusal;
 use edition::Edition;
 
 // What a command says: status 0 and the range, or the first byte of the two that decline it.
-#[derive(Drop)]
+#[derive(Clone, Copy)]
 struct Command {
     status: u8,
     offset: u16,
@@ -14,7 +14,7 @@ struct Command {
 }
 
 // The first byte of the two that end an answer, and where the bytes before them stand in the image.
-#[derive(Drop)]
+#[derive(Clone, Copy)]
 pub(crate) struct Asked {
     pub status: u8,
     pub start: usize,

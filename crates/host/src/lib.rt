@@ -1,6 +1,8 @@
 // What a host program asks of a card by command: a range of the template's bytes, from '60' to the checksum's value.
 // Any edition, image, command and room may be lent; how the command came, and where the answer goes, is the caller's.
 // '6700' to '6A00' are answers that stand in the room, and no refusals: only a room of another size is refused, and left as it is.
+#![tactic(auto)]
+
 mod asking;
 
 ghost use Rattle.std.specs.Prelude.{◌≡◌, [], ◌∷◌, ◌++◌, ◌+◌, ◌≤◌, length};
@@ -12,7 +14,7 @@ use card::Refusal;
 use edition::Edition;
 
 // 20 or no refusal, and how many bytes of answer stand at the start of the room.
-#[derive(Drop)]
+#[derive(Clone, Copy)]
 pub struct Hosted {
     pub refusal: Refusal,
     pub length: usize,

@@ -1,6 +1,8 @@
 // The C interface: the calls of include/kvk.h, each handed on to the crate that promises it.
 // Any table, image, record and room may be lent, of whatever size: what has not its size is refused with a number.
 // A function of another crate is not exported from the archive, so each call stands here once more, with the same promise.
+#![tactic(auto)]
+
 ghost use Rattle.std.specs.Prelude.{◌≡◌, not, eqb};
 ghost use Rattle.wire.specs.Answers.{packed};
 ghost use Rattle.calls_cards.specs.Calls.{kvk_edition, kvk_edition_room, kvk_read, kvk_read_room, kvk_renumber, kvk_renumber_bytes, kvk_write, kvk_write_image};

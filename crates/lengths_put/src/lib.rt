@@ -1,6 +1,8 @@
 // The length field of an object, put in the shortest form.
 // Any room and place may be lent; whether it fits is the caller's to know.
 // What does not fit is not put at all, and the answer is then the place that was given.
+#![tactic(auto)]
+
 ghost use Rattle.std.specs.Prelude.{◌≡◌};
 ghost use Rattle.ground.specs.Rooms.{room_with, behind_put};
 ghost use Rattle.lengths.specs.Lengths.{length_field};

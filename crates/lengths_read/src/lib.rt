@@ -1,6 +1,8 @@
 // The length field of an object, read: its length and the bytes it takes, or what is amiss.
 // Any bytes may be lent. Which forms and lengths it takes, and what lies behind the field, is the caller's.
 // A longer form than needed is refused.
+#![tactic(auto)]
+
 ghost use Rattle.std.specs.Prelude.{◌≡◌};
 ghost use Rattle.lengths.specs.Lengths.{behind81, behind82, length_read, length_told};
 

@@ -1,6 +1,8 @@
 // Single letters of DIN 66003: which bytes have one, and the second byte that a letter has in UTF-8.
 // Any byte may be lent. Whole texts are turned by `letters_spelled` and `letters_coded`.
 // A letter of one byte is told by 0, which is no second byte of any.
+#![tactic(auto)]
+
 ghost use Rattle.std.specs.Prelude.{◌≡◌, cond};
 ghost use Rattle.letters.specs.Letters.{second_of, has_letter};
 

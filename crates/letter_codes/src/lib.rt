@@ -1,6 +1,8 @@
 // The byte of DIN 66003 for a letter in UTF-8.
 // Any bytes may be lent. Where a letter begins in a text is told by `letters_coded`.
 // No letter has the byte 0, so that 0 tells that there is none.
+#![tactic(auto)]
+
 ghost use Rattle.std.specs.Prelude.{◌≡◌};
 ghost use Rattle.letters.specs.Turning.{is_plain, behind_c3, pair_of, byte_for};
 

@@ -1,6 +1,8 @@
 // From UTF-8 to the code of DIN 66003.
 // Any text and any room may be lent; which of the letters a card may have is the value rules' to say.
 // It goes as far as there are letters, and room for them: where fewer bytes were taken than lent, the next letter is none of the code, or has no room.
+#![tactic(auto)]
+
 ghost use Rattle.std.specs.Prelude.{◌≡◌, length, take};
 ghost use Rattle.std.proofs.lemmas.List.Edits.{sets};
 ghost use Rattle.letters.specs.Turning.{is_first, code, coded_answer};

@@ -1,6 +1,8 @@
 // From the code of DIN 66003 to UTF-8.
 // Any bytes and any room may be lent; which of the letters a card may have is the value rules' to say.
 // It goes as far as there are letters, and room for them: where fewer bytes were taken than lent, the next has no letter, or no room.
+#![tactic(auto)]
+
 ghost use Rattle.std.specs.Prelude.{◌≡◌, length};
 ghost use Rattle.std.proofs.lemmas.List.Edits.{sets};
 ghost use Rattle.ground.specs.Rooms.{room_with, behind_put};

@@ -1,6 +1,8 @@
 // Where a line of a text ends.
 // Any text, and any place in it or past it, may be lent. What the line says is told by `line_keys` and `line_values`.
 // A place past the end of the text is its own answer: nothing stands from there on.
+#![tactic(auto)]
+
 ghost use Rattle.std.specs.Prelude.{◌≡◌, ◌+◌, ◌≤◌, length, drop};
 ghost use Rattle.card_lines.specs.Lines.{before, feed_from};
 

@@ -1,6 +1,8 @@
 // What a line of a card's text speaks of, by the name or tag before its colon.
 // Any bytes may be lent; a line is lent without its line feed. What the line says is told by `line_values`.
 // A line that is blank or starts with # speaks of nothing and is no fault; one without a colon has no name.
+#![tactic(auto)]
+
 ghost use Rattle.std.specs.Prelude.{◌≡◌};
 ghost use Rattle.card_lines.specs.Keys.{key_trimmed, key_of};
 

@@ -1,6 +1,8 @@
 // The name of an object, or of a byte of its own, as a line of a card's text has it; and any line of a list, by its number.
 // Any room, list and key may be lent; a room that the name does not fit is left as it is.
 // A key past the last name has none: nothing is put, and the place that was lent is the answer.
+#![tactic(auto)]
+
 ghost use Rattle.std.specs.Prelude.{◌≡◌, get_or, []};
 ghost use Rattle.ground.specs.Rooms.{room_with, behind_put};
 ghost use Rattle.card_lines.specs.Lines.{lines};

@@ -1,6 +1,8 @@
 // A line without what people do not see: the blanks at its head, and a carriage return at its end.
 // Any bytes may be lent; a line is lent without its line feed.
 // A tab is no blank, and blanks at the end stay: they are part of what the line says.
+#![tactic(auto)]
+
 ghost use Rattle.std.specs.Prelude.{◌≡◌, eqb};
 ghost use Rattle.ground.specs.Lists.{leading};
 ghost use Rattle.card_lines.specs.Lines.{without_return, trimmed};

@@ -1,6 +1,8 @@
 // What a line says behind its first colon.
 // Any bytes may be lent; a line is lent without its line feed. What the line speaks of is told by `line_keys`.
 // One blank behind the colon is no part of the value, a second one is; a line without a colon says nothing.
+#![tactic(auto)]
+
 ghost use Rattle.std.specs.Prelude.{◌≡◌};
 ghost use Rattle.card_lines.specs.Keys.{behind_blank, behind_colon, value_in};
 

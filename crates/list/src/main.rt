@@ -1,6 +1,8 @@
 // Lists the card on standard input: under issue, or under terminal with `terminal` as first argument; later ones are ignored.
 // What is read and written there is whatever the caller has put there; nothing is said on standard error.
 // Any other first argument gives a refusal, and not a byte of the input is taken. A card with something behind it is none: it is refused with 1.
+#![tactic(auto)]
+
 use edition::Edition;
 use libc::{STDIN_FILENO, STDOUT_FILENO};
 

@@ -1,6 +1,8 @@
 // The text of one card: ACCEPTED and the objects that are present, or REFUSED and why.
 // Any edition, image and room may be lent; which edition, and where the text goes, is the caller's.
 // A room that the longest listing would not fit is left as it is, whatever this card needs.
+#![tactic(auto)]
+
 mod cause;
 mod object_lines;
 mod text;

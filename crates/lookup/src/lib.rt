@@ -1,6 +1,8 @@
 // What an image has at the places of a table: whether an object is there, and its part of the image.
 // Any image and any table may be lent, also ones that do not belong together; which table is an image's own is the reader's to say.
 // An object that the table has is there even where its place is not in the image: its part is then empty.
+#![tactic(auto)]
+
 ghost use Rattle.std.specs.Prelude.{◌≡◌, ◌+◌};
 ghost use Rattle.lookup.specs.Parts.{is_there, within, part_at};
 

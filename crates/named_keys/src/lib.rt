@@ -1,6 +1,8 @@
 // The key of a name or tag of a card's text: its number among the names, or else among the tags.
 // Any bytes may be lent. Where in a line its name ends is told by `line_keys`.
 // What has no tag is called by its name in the list of tags too, so that both lists have twenty lines.
+#![tactic(auto)]
+
 ghost use Rattle.std.specs.Prelude.{◌≡◌};
 ghost use Rattle.card_lines.specs.Lines.{lines};
 ghost use Rattle.card_lines.specs.Keys.{place_of, key_named};

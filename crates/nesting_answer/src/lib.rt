@@ -1,6 +1,8 @@
 // Whether one edition is nested in another; where it is not, the first row in card order that shows it, and the clause that fails there.
 // Any two editions may be handed over. What is done about an edition that is not nested is the caller's.
 // An edition that is not well formed is nested in none and has none nested in it; sums and the template's length are not looked at.
+#![tactic(auto)]
+
 ghost use Rattle.std.specs.Prelude.{◌≡◌};
 ghost use Rattle.edition.specs.Rows.{formed_of};
 ghost use Rattle.nesting.specs.Decision.{is_well, nesting_of};

@@ -1,6 +1,8 @@
 // The first clause of nesting that fails of one row: 1 a length, 2 a value, 3 required; 0 where none does.
 // Any two rows may be handed over. Which row it is, and whether the editions are well formed, is the caller's.
 // The clauses are asked in document 01's order, so a value is told only where each inner length is an outer one.
+#![tactic(auto)]
+
 ghost use Rattle.std.specs.Prelude.{◌≡◌};
 ghost use Rattle.nesting.specs.Decision.{clause_of};
 

@@ -1,6 +1,8 @@
 // The rules of two rows by number, whether the outer takes whatever the inner takes, and a pick of two bytes.
 // Any rules and numbers may be handed over. Lengths, and what is required, are the caller's.
 // A rule is within text other than the single D by the lengths too: text and code are, where the length 1 is not permitted.
+#![tactic(auto)]
+
 ghost use Rattle.std.specs.Prelude.{◌≡◌, cond};
 ghost use Rattle.nesting.specs.Decision.{number_of, numbers_in};
 

@@ -1,6 +1,8 @@
 // A value that the inner row takes and the outer does not, where the clause of values fails.
 // Any two rows may be handed over. Whether that clause fails is for `nesting_clauses::clause_of` to say.
 // Where it does not fail this is a value too, of the shortest inner length, and shows nothing.
+#![tactic(auto)]
+
 ghost use Rattle.std.specs.Prelude.{◌≡◌};
 ghost use Rattle.nesting.specs.Decision.{by_name, witness_of};
 

@@ -1,6 +1,8 @@
 // How long the objects of a lent record are: each of them, and all together, and what is refused of that.
 // Any bytes may be lent; what the rows say of each length is asked elsewhere.
 // A record has no places: where 11 is told, its place is 0. It is told before 4.
+#![tactic(auto)]
+
 ghost use Rattle.std.specs.Prelude.{◌≡◌, cond, map, ◌+◌, ◌≤◌, eqb, length};
 ghost use Rattle.card.specs.Content.{content_of};
 ghost use Rattle.card.specs.Sums.{sums_refusal, nowhere};

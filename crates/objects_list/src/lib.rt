@@ -1,6 +1,8 @@
 // The objects of a template, read in card order into the table of places.
 // Any bytes, rows and address may be lent; whether the edition is well formed is the reader's to ask.
 // 12 is told here, 11 by the reader: the sums are asked of a whole table.
+#![tactic(auto)]
+
 ghost use Rattle.std.specs.Prelude.{◌≡◌, cond, ◌+◌, ◌≤◌, eqb, length};
 ghost use Rattle.rules.specs.Kinds.{kind_table};
 ghost use Rattle.edition.specs.Rows.{tags};

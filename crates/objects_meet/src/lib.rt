@@ -1,6 +1,8 @@
 // What a row meets at a place: nothing of its own, which it may; its object; or a refusal.
 // Any bytes, row and table of kinds may be lent; that the table is the right one is the caller's to see to.
 // A row that is not required passes any byte that is not its tag: what is left behind the last row is refused there.
+#![tactic(auto)]
+
 ghost use Rattle.std.specs.Prelude.{◌≡◌, suc, drop};
 ghost use Rattle.edition.specs.Rows.{tags};
 ghost use Rattle.objects.specs.Objects.{entry_at, look_by, here, met_of};

@@ -1,6 +1,8 @@
 // The object that stands behind a tag: where its value begins and how long it is, or number, place and tag of its refusal.
 // Any bytes, row and table of kinds may be lent; that the tag before them is the row's, and that the table is the right one, is the caller's to see to.
 // A place fits a byte, so that no sum of places is too large.
+#![tactic(auto)]
+
 ghost use Rattle.std.specs.Prelude.{◌≡◌, ◌+◌, ◌<◌};
 ghost use Rattle.rules.specs.Values.{verdict_told};
 ghost use Rattle.objects.specs.Objects.{found_told, entry_at, object_by, valued, found_of};

@@ -1,6 +1,8 @@
 // What is refused of a row's object, of a row that is missing, and of what is left behind the last.
 // Any bytes, row number and place may be given; whether it is to be refused is the caller's to say.
 // Only with 7 are the ends of the row's set told.
+#![tactic(auto)]
+
 ghost use Rattle.std.specs.Prelude.{◌≡◌, suc, ◌+◌, drop};
 ghost use Rattle.ground.specs.Lists.{among};
 ghost use Rattle.edition.specs.Rows.{tags};

@@ -1,6 +1,8 @@
 // Rewriting a card byte by byte: our own plans, under which a card can be pulled at any time.
 // Any edition, images and room may be lent; taking the steps, in their order, is the caller's.
 // The template's tag is spoiled first and written last, so that no state between is a card under any edition; one byte needs neither.
+#![tactic(auto)]
+
 mod steps;
 
 ghost use Rattle.std.specs.Prelude.{◌≡◌};
@@ -10,7 +12,7 @@ use card::Refusal;
 use edition::Edition;
 
 // How many words of the lent room are steps; none with a refusal.
-#[derive(Drop)]
+#[derive(Clone, Copy)]
 pub struct Planned {
     pub refusal: Refusal,
     pub count: usize,

@@ -1,6 +1,8 @@
 // The text of a table, for people to edit: a line with the edition's number, then one row a line in card order.
 // Any edition and any room may be lent; where the text goes is the caller's. `take_lines` reads it back.
 // Every table has a text, one that is not well formed too; a room that the longest text might not fit is left as it is, whatever this one needs.
+#![tactic(auto)]
+
 mod lengths;
 mod rows;
 mod vocabulary;

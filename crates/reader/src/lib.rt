@@ -1,6 +1,8 @@
 // The reader: the record of an image, copied from the places of its values, or its refusal.
 // The call is total and promises one answer for any bytes and any edition; nothing is kept.
 // The places are found first, so a refused image costs no copy.
+#![tactic(auto)]
+
 ghost use Rattle.std.specs.Prelude.{◌≡◌, map, ◌≤◌, length};
 ghost use Rattle.card.specs.Content.{object_of, record_of};
 ghost use Rattle.card.specs.Frame.{free_of};

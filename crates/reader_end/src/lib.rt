@@ -1,6 +1,8 @@
 // What is refused behind the objects: the checksum, the filler, the last byte.
 // Any bytes and any end of the template may be lent; that the end is the template's is the caller's to see to.
 // A template that no card has is told as 1.
+#![tactic(auto)]
+
 ghost use Rattle.std.specs.Prelude.{◌≡◌, ◌-◌, ◌≤◌, length};
 ghost use Rattle.card.specs.Refusals.{refuse};
 ghost use Rattle.card.specs.Frame.{tail_part};

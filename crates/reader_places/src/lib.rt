@@ -1,6 +1,8 @@
 // Where the values of an image stand, or its refusal.
 // The calls are total and promise one answer for any bytes and any edition, handed over or lent as a table; none keeps anything.
 // Under an edition that is not well formed every image of 256 bytes is refused with 2.
+#![tactic(auto)]
+
 ghost use Rattle.std.specs.Prelude.{◌≡◌};
 ghost use Rattle.card.specs.Places.{places as placesIn};
 ghost use Rattle.wire_tables.specs.Tables.{lent_edition};

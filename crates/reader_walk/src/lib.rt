@@ -1,6 +1,8 @@
 // The one walk over an image: what stands before the objects, the objects, what stands behind them.
 // Any bytes and any edition may be lent. The refusal of the edition is the caller's: with its own the places are those of the image.
 // The refusals are a chain, told in the document's order whatever is found first.
+#![tactic(auto)]
+
 ghost use Rattle.std.specs.Prelude.{◌≡◌};
 ghost use Rattle.edition.specs.Rows.{formed_of};
 ghost use Rattle.card.specs.Refusals.{or_else, bad_row};

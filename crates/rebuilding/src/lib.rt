@@ -1,6 +1,8 @@
 // The second card rebuilt: the first card, changed to what a record has at the objects and addresses that a list of differences names.
 // Any edition, image, list, record and room may be lent; that the record holds what the second card has there is the caller's.
 // What the list does not name is taken from the first card, whatever stands there in the record; the record's number is not looked at.
+#![tactic(auto)]
+
 mod listed;
 mod mending;
 

@@ -1,13 +1,15 @@
 // The separate call that puts an edition's number on a record.
 // Any edition and record may be asked about; what is refused comes back as it came.
 // It tells what writing would tell of the record with the number put on, so never 20 or 22; a record that has the number already comes back the same.
+#![tactic(auto)]
+
 ghost use Rattle.std.specs.Prelude.{◌≡◌};
 ghost use Rattle.card.specs.Writing.{renumber_refusal, renumbered};
 
 use card::{Record, Refusal};
 use edition::Edition;
 
-#[derive(Drop)]
+#[derive(Clone, Copy)]
 pub struct Renumbered {
     pub refusal: Refusal,
     pub content: Record,

@@ -1,6 +1,8 @@
 // The first row in card order of which a clause of a well_formed edition fails, and the clause.
 // Any rows may be handed over. The edition's number is the caller's.
 // Where no clause fails of any row, the row is 17, past the last.
+#![tactic(auto)]
+
 ghost use Rattle.std.specs.Prelude.{◌≡◌};
 ghost use Rattle.report.specs.Clauses.{report_from};
 

@@ -1,6 +1,8 @@
 // The first clause that fails of those that speak of a row's rule, 5 to 8; 0 where none does.
 // Any row may be handed over, as the row of the checksum or as another. The clauses before these are the caller's.
 // Only the row of the checksum is raw, and only a row of a date has one length.
+#![tactic(auto)]
+
 ghost use Rattle.std.specs.Prelude.{◌≡◌};
 ghost use Rattle.edition.specs.Rows.{by_rule};
 ghost use Rattle.report.specs.Clauses.{rule_clauses, first_failing};

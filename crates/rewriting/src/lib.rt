@@ -1,6 +1,8 @@
 // Rewriting a card byte by byte: the check of anyone's plan, whether a card can be pulled at any time under it.
 // Any edition, images and steps may be lent; who made the plan, and how, is the caller's.
 // A state is looked at after each step: touching the new image early and leaving it again is fine, and so is passing the old one.
+#![tactic(auto)]
+
 mod states;
 
 ghost use Rattle.std.specs.Prelude.{◌≡◌, length};
@@ -9,7 +11,7 @@ ghost use Rattle.rewriting.specs.Checking.{sizes_refusal, input_refusal, checked
 use card::Refusal;
 use edition::Edition;
 
-#[derive(Drop)]
+#[derive(Clone, Copy)]
 pub struct Checked {
     pub refusal: Refusal,
     pub safe: bool,

@@ -1,6 +1,8 @@
 // Which words of a table's text say what a row has: its rule, and whether it is required.
 // Any rule may be lent. The words themselves are `table_words`'s.
 // Text without the letter D is a rule of its own, with the last of the rules' words.
+#![tactic(auto)]
+
 ghost use Rattle.std.specs.Prelude.{◌≡◌, ◌<◌};
 ghost use Rattle.table_text.specs.Texts.{presence_word, rule_word};
 

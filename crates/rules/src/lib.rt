@@ -1,7 +1,9 @@
 // The value rules: what a rule says of the bytes of a value; types, definitions and laws.
 // There is no code here: judging stands in the crates above. Whether the length is permitted is the edition's.
 // A byte outside the rule's characters is told before all else, even in front of a date that makes no sense.
-#[derive(Drop)]
+#![tactic(auto)]
+
+#[derive(Clone, Copy)]
 pub enum Rule {
     Digits,
     Text,
@@ -15,7 +17,7 @@ pub enum Rule {
 }
 
 // How a value stands to its rule.
-#[derive(Drop)]
+#[derive(Clone, Copy)]
 pub enum Verdict {
     Takes,
     // The index of the first byte outside the rule's characters.

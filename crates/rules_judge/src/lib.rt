@@ -1,6 +1,8 @@
 // Whether a rule takes a value, or what is wrong with it.
 // Any bytes may be lent. Whether the length is permitted is the edition's; the index told counts within the value.
 // A byte outside the rule's characters is told before all else, even in front of a date that makes no sense.
+#![tactic(auto)]
+
 ghost use Rattle.std.specs.Prelude.{◌≡◌};
 ghost use Rattle.ground.specs.Lists.{leading};
 ghost use Rattle.rules_judge.specs.Characters.{characters_of, has_byte};
@@ -9,7 +11,7 @@ ghost use Rattle.rules.specs.Values.{by_class, takes, judged, verdict_told};
 use rules::{Rule, Verdict};
 
 // The characters of a rule as bits: bit b of `low` for byte b, bit b - 64 of `high` for byte b up to 127; `rest` for those above.
-#[derive(Drop)]
+#[derive(Clone, Copy)]
 struct Characters {
     low: u64,
     high: u64,

@@ -1,6 +1,8 @@
 // Values looked through by a table of kinds, which is made once for many values.
 // Any table may be lent; whoever lends that of `kinds` is answered what `judge` answers.
 // A table of another length than 256 tells nothing: the value is then looked through byte by byte.
+#![tactic(auto)]
+
 ghost use Rattle.std.specs.Prelude.{◌≡◌, cond, length};
 ghost use Rattle.rules.specs.declared.Verdict.TheVariants.{Takes, Breaks};
 ghost use Rattle.rules.specs.Values.{by_class, holds, verdict_told};

@@ -1,6 +1,8 @@
 // What a rule asks of a value beyond its characters: a lead, a code, a birth date, an expiry, other than D.
 // Any bytes may be lent; whether they are of the rule's characters, others have asked.
 // A byte that is not there is taken as 0, which is in no code and no date.
+#![tactic(auto)]
+
 ghost use Rattle.std.specs.Prelude.{◌≡◌, false};
 ghost use Rattle.rules.specs.Values.{is_lead, is_code, two, is_birth, is_expiry, is_not_d, by_sense, holds};
 

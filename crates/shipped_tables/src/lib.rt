@@ -1,6 +1,8 @@
 // The edition of a lent table and what is refused of it, in one answer; the two shipped tables are known by their bytes.
 // Any bytes may be lent; reader and writer take the refusal as it is told here, and ask no more.
 // A table that is not shipped is decoded and tested row by row: the answer is the same, only later.
+#![tactic(auto)]
+
 ghost use Rattle.std.specs.Prelude.{◌≡◌};
 ghost use Rattle.edition.specs.Tables.{terminal, issue};
 ghost use Rattle.ground.specs.Lists.{same_list};
@@ -10,7 +12,7 @@ ghost use Rattle.shipped_tables.specs.Lending.{lent_table};
 use card::Refusal;
 use edition::Edition;
 
-#[derive(Drop)]
+#[derive(Clone, Copy)]
 pub struct Lent {
     pub edition: Edition,
     pub refusal: Refusal,

@@ -1,11 +1,12 @@
 // A table from its text, by definition: the edition, or the first line that is wrong and what is wrong with it; and that a table comes back from its text.
 // No function stands here: `take_lines` takes a text, with the crates `take_..` under it, and promises what is said.
 // A text that is wrong anywhere gives no edition at all; lines that are blank or start with # are counted and skipped.
+#![tactic(auto)]
 
 use edition::{Edition, Row};
 
 // A kind of bytes.
-#[derive(Drop)]
+#[derive(Clone, Copy)]
 pub enum Kind {
     // A blank, a tab or a carriage return.
     Blanks,
@@ -19,7 +20,7 @@ pub enum Kind {
 pub const NOTHING: u16 = 258;
 
 // What is listed so far: what is wrong, the set, where an open range starts or 32, and the number that is being written.
-#[derive(Drop)]
+#[derive(Clone, Copy)]
 pub struct Listed {
     pub wrong: u8,
     pub set: u32,
@@ -28,7 +29,7 @@ pub struct Listed {
 }
 
 // What the words of a line have said so far: what is wrong, how many words there were, and what they told.
-#[derive(Drop)]
+#[derive(Clone, Copy)]
 pub struct Fields {
     pub wrong: u8,
     pub field: u8,
@@ -39,7 +40,7 @@ pub struct Fields {
 }
 
 // What the lines have said so far.
-#[derive(Drop)]
+#[derive(Clone, Copy)]
 pub struct Taking {
     pub wrong: u8,
     pub line: usize,
@@ -50,7 +51,7 @@ pub struct Taking {
 
 // What a text gives: wrong is 0 and edition what is written; or wrong tells what is wrong, line where, counted from 1, and due which line
 // of the table was due there: 0 that of the number, k + 1 that of row k.
-#[derive(Drop)]
+#[derive(Clone, Copy)]
 pub struct Taken {
     pub wrong: u8,
     pub line: usize,

@@ -1,6 +1,8 @@
 // The words of a table's text, by their numbers: 0 to 16 the names of the rows, 17 required, 18 optional, 19 to 26 the rules, 27 edition, 28 none.
 // Any word and any number may be lent.
 // The words stand in one string, each from its start to the next one's; past the last there is the empty word, which starts at 0.
+#![tactic(auto)]
+
 ghost use Rattle.std.specs.Prelude.{◌≡◌, ◌-◌, ◌≤◌, length, take, drop};
 ghost use Rattle.ground.specs.Lists.{same_list};
 ghost use Rattle.table_text.specs.Vocabulary.{word_of, start_of};

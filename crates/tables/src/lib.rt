@@ -1,6 +1,8 @@
 // An edition by a word of the command line: terminal, issue, or the file of a table.
 // Which word it is, and what is done with the edition, is the caller's. What is wrong with the word or with the file is said here, on standard error.
 // No byte of a card is taken here: a minus sign, which stands for standard input, names an edition only where a caller says so.
+#![tactic(auto)]
+
 mod wrong;
 
 ghost use Rattle.std.specs.Prelude.{◌<◌};
@@ -8,7 +10,7 @@ ghost use Rattle.std.specs.Prelude.{◌<◌};
 use edition::Edition;
 
 // The edition, if the status is words::DONE; else how the run ends.
-#[derive(Drop)]
+#[derive(Clone, Copy)]
 pub struct Chosen {
     pub status: u8,
     pub edition: Edition,

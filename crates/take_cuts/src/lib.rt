@@ -1,6 +1,8 @@
 // Where a run of bytes of one kind ends, and whether a line of a table's text is to be skipped.
 // Any bytes, and any place in them or past them, may be lent; a line is lent without its line feed.
 // A carriage return is a blank, so that texts of either kind of line end are taken.
+#![tactic(auto)]
+
 ghost use Rattle.std.specs.Prelude.{◌≡◌, ◌-◌, ◌≤◌, length};
 ghost use Rattle.table_take.specs.Splitting.{of_kind, is_kind, behind_kind};
 ghost use Rattle.table_take.specs.Taking.{is_remark};

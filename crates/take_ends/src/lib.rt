@@ -1,6 +1,8 @@
 // What a table's text gives once all of its lines have been looked at.
 // Any state of the lines, and any number of a line, may be lent.
 // A text that ends before its last row gives no edition, just as a line that is wrong.
+#![tactic(auto)]
+
 ghost use Rattle.std.specs.Prelude.{◌≡◌};
 ghost use Rattle.table_take.specs.Taking.{finished};
 

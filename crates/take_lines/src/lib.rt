@@ -1,6 +1,8 @@
 // A table from its text: the edition, or the first line that is wrong and what is wrong with it.
 // Any bytes may be lent. What is taken is what is written: whether the edition is well formed, others ask.
 // A text that is wrong anywhere gives no edition at all; lines that are blank or start with # are counted and skipped.
+#![tactic(auto)]
+
 ghost use Rattle.std.specs.Prelude.{◌≡◌, ◌≤◌};
 ghost use Rattle.table_take.specs.Taking.{refused, stored, with_line, taken};
 

@@ -1,6 +1,8 @@
 // A number that is written in decimal, byte by byte or as a word.
 // Any word, and any number before a byte, may be lent.
 // What is no number below 256 is told by one above 255: 256 for a larger one, 257 where a byte is no digit, 258 where nothing is written.
+#![tactic(auto)]
+
 ghost use Rattle.std.specs.Prelude.{◌≡◌, ◌<◌};
 ghost use Rattle.table_take.specs.Numbers.{with_digit, with_byte, number_of};
 

@@ -1,6 +1,8 @@
 // The rule that a word of a table's text names, by its number.
 // Any number may be lent. Which word has which number is told by `table_words`.
 // A number past the last is that of the last rule.
+#![tactic(auto)]
+
 ghost use Rattle.std.specs.Prelude.{◌≡◌};
 ghost use Rattle.table_take.specs.Taking.{rule_by};
 

@@ -1,6 +1,8 @@
 // The set of lengths that a word lists: numbers and ranges behind commas, or none.
 // Any word may be lent. Whether a row may permit the lengths, others ask.
 // Lengths from 0 to 31 are taken, in any order and more than once.
+#![tactic(auto)]
+
 ghost use Rattle.std.specs.Prelude.{◌≡◌, ◌+◌, ◌-◌, ◌<◌};
 ghost use Rattle.table_take.specs.LengthSets.{with_range, first_of, item_fault, range_fault, closed, begun, with_sign, lengths_of};
 

@@ -1,6 +1,8 @@
 // What a line of a table's text says, word for word: the number of the edition, or a row.
 // Any line and any number of a line that is due may be lent; a line is lent without its line feed.
 // Behind a wrong word no other is looked at; a word that is missing is wrong as another word would be.
+#![tactic(auto)]
+
 ghost use Rattle.std.specs.Prelude.{◌≡◌, cond, ◌≤◌};
 ghost use Rattle.ground.specs.Lists.{same_list};
 ghost use Rattle.ground.specs.Rooms.{hex};

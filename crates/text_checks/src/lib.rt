@@ -1,6 +1,8 @@
 // The first line of a card's text that is wrong, and why.
 // Any text may be lent. Whether an edition writes the record that the text makes, the writer tells.
 // A line for the checksum is a fault whatever it says; a line without a name is one too, unless it is blank or a remark.
+#![tactic(auto)]
+
 ghost use Rattle.std.specs.Prelude.{◌≡◌};
 ghost use Rattle.card_text.specs.Faults.{fault_of_line, fault_at, first_fault};
 

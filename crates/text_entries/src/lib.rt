@@ -1,12 +1,14 @@
 // Of a card's text the line that speaks of something: its number, and what it says.
 // Any text and any key may be lent. What a line speaks of is told by `card_lines`; whether its value is right, by `text_values`.
 // The first line with a key counts, wherever others with it stand; where there is none, the number is 0 and the value is empty.
+#![tactic(auto)]
+
 ghost use Rattle.std.specs.Prelude.{◌≡◌};
 ghost use Rattle.card_lines.specs.Lines.{lines};
 ghost use Rattle.card_text.specs.Entries.{part_of, line_from, line_with, line_of, value_of};
 
 // A line of a text: its number, counted from 1, and 0 where there is none; where it starts, and where its line feed stands.
-#[derive(Drop)]
+#[derive(Clone, Copy)]
 struct Found {
     line: usize,
     start: usize,

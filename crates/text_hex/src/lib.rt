@@ -1,6 +1,8 @@
 // A value in hex digits, capital or small: whether it is so many of them, and the byte of each two.
 // Any value may be lent. How many digits are due, and what the bytes mean, is the caller's.
 // A byte of a value that is no hex digit counts as 0, so that each value has bytes; `is_hex` tells whether they were written.
+#![tactic(auto)]
+
 ghost use Rattle.std.specs.Prelude.{◌≡◌, ◌<◌};
 ghost use Rattle.ground.specs.Lists.{leading};
 ghost use Rattle.card_text.specs.Hex.{letter_value, digit_value, is_digit, is_hex, byte_at};

@@ -1,6 +1,8 @@
 // The sixteen objects that a card's text makes, in card order.
 // Any text may be lent. Whether its lines are right is told by `text_checks`; whether an edition takes the objects, by the writer.
 // A value past 28 letters keeps its length, so that the writer can tell that it is too long; of its bytes the first 28 are kept.
+#![tactic(auto)]
+
 ghost use Rattle.std.specs.Prelude.{◌≡◌};
 ghost use Rattle.card_text.specs.Records.{object_said, objects_said};
 

@@ -1,6 +1,8 @@
 // The record that a card's text makes.
 // Any text may be lent. Whether an edition writes the record is the writer's to tell.
 // A text with a fault makes a record all the same: what is wrong with it is told by `text_checks`, and no line can set the checksum.
+#![tactic(auto)]
+
 ghost use Rattle.std.specs.Prelude.{◌≡◌};
 ghost use Rattle.card_text.specs.Records.{byte_or, free_said, record_said};
 

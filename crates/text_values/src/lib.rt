@@ -1,6 +1,8 @@
 // What is wrong with a value of a card's text: a letter that DIN 66003 lacks, or not the hex digits that are due.
 // Any value and any key may be lent. Whether the value is one that an edition takes, others ask.
 // Of a value 255 letters are looked at, and no more: behind them nothing is wrong.
+#![tactic(auto)]
+
 ghost use Rattle.std.specs.Prelude.{◌≡◌};
 ghost use Rattle.card_text.specs.Faults.{letters_taken, digits_due, fault_of_value};
 

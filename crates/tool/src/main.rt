@@ -1,6 +1,8 @@
 // The program behind ./kvk: the first word names the command, the others are its own.
 // What a command writes goes to standard output, what it has to say to standard error.
 // A program has no exit status, so the last byte of each run, on descriptor 3, is its status as a digit.
+#![tactic(auto)]
+
 mod length;
 mod list;
 

@@ -6,7 +6,7 @@ use edition::Edition;
 use libc::STDOUT_FILENO;
 
 // Where the listings end, and how many cards were accepted and refused by then.
-#[derive(Drop)]
+#[derive(Clone, Copy)]
 pub(crate) struct Listed {
     pub size: usize,
     pub accepted: u64,

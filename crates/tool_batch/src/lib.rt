@@ -1,6 +1,8 @@
 // The command batch [--numbered] [EDITION] FILE: lists the cards in a file, one behind the other, and counts them.
 // What is listed is `listing`'s. Files and words of the command line are looked at here.
 // What is left at the end of the file, less than a card, is listed as a card of another size. The word --progress is the script's: it says that people look on.
+#![tactic(auto)]
+
 mod cards;
 mod counts;
 
@@ -13,7 +15,7 @@ use edition::Edition;
 const PIECE: usize = 100 * 256;
 
 // How a run stands: whether the input goes on, whether all was written, and how many cards were accepted and refused.
-#[derive(Drop)]
+#[derive(Clone, Copy)]
 struct Stand {
     goes_on: bool,
     written: bool,

@@ -1,6 +1,8 @@
 // The command day: a round of visits as one file, built, added to, listed, searched, and a card taken out of it.
 // What a day file is, is `day`'s. The words of the command line are looked at here, and nothing is written where they are bad.
 // A file is replaced only when the new one is complete on disk; where anything is refused it stays as it is.
+#![tactic(auto)]
+
 mod changes;
 mod inputs;
 mod looks;

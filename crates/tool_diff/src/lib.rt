@@ -1,6 +1,8 @@
 // The command diff EDITION FIRST SECOND: a line for each difference of two cards, in words, both values beside each other.
 // What differs, and what is refused, is told by `differences`; the words of the command line are looked at here.
 // It ends as diff does, and not as the other commands do: 0 the cards are equal, 1 they differ, 2 one is refused.
+#![tactic(auto)]
+
 ghost use Rattle.std.specs.Prelude.{◌<◌};
 
 use card::{Object, Record};

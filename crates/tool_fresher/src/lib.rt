@@ -1,6 +1,8 @@
 // The command fresher EDITION FIRST SECOND: which of two cards is valid later, its family name, and by how many months.
 // What is answered is `fresher_cards`'s. Files and words of the command line are looked at here, and nothing is written where they are bad.
 // Where a card is refused, the answer is its own, as `kvk list` gives it, with its file named on standard error.
+#![tactic(auto)]
+
 ghost use Rattle.std.specs.Prelude.{◌<◌};
 
 use edition::Edition;

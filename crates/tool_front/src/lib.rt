@@ -1,6 +1,8 @@
 // The command front [--fund] [--svg] FILE: the printed front of a card, with the fund name or without, as text or as a picture.
 // What is printed is `front_print`'s. The words of the command line are looked at here, and nothing is written where they are bad.
 // The card is read under terminal, which takes what issue takes; a card that is refused is listed as such.
+#![tactic(auto)]
+
 mod framed;
 mod letters;
 mod picture;

@@ -1,6 +1,8 @@
 // The command host EDITION FILE COMMAND: answers a host's command over the card in the file; command and answer are written in hex.
 // What is answered is `host`'s. The words of the command line are looked at here, and nothing is written where they are bad.
 // A command that is declined is answered all the same, with its two bytes; what they mean is said on standard error.
+#![tactic(auto)]
+
 ghost use Rattle.std.specs.Prelude.{◌<◌};
 ghost use Rattle.io.specs.Counts.{IsPrefixLen};
 

@@ -1,6 +1,8 @@
 // The command make EDITION TEXT OUT: the 256 bytes of a card from a text, all of them or none.
 // What the text says is `card_text`'s, what may be written is `writer`'s. Files and words of the command line are looked at here.
 // What is refused is told with the line of the text that is to be changed, where there is one.
+#![tactic(auto)]
+
 mod wrong;
 
 ghost use Rattle.std.specs.Prelude.{◌<◌};

@@ -1,6 +1,8 @@
 // The commands plan EDITION OLD NEW, which writes the steps one a line, and check-plan EDITION OLD NEW STEPS, which says yes or no.
 // What a plan is, and when it is safe, is told by `planning` and `rewriting`; words and lines are looked at here.
 // check-plan takes the lines of anyone: an address past 255 is a step too, and one past 65535 is taken as 65535.
+#![tactic(auto)]
+
 mod lines;
 
 ghost use Rattle.std.specs.Prelude.{◌<◌};

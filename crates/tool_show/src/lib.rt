@@ -1,6 +1,8 @@
 // The command show [EDITION] [--text | --json] FILE: a card for people, as text that make takes, or as JSON.
 // What the card says is `reader`'s, its letters are `letters`'s. Files and words of the command line are looked at here.
 // The whole answer is put together before any of it is written.
+#![tactic(auto)]
+
 mod json;
 mod meanings;
 mod people;

@@ -1,6 +1,8 @@
 // The command table: EDITION writes a table as text, check EDITION says whether it is well formed, nested INNER OUTER [OUT] whether one is nested in another.
 // What a table's text is, what is amiss and what is nested, is told by `put_table`, `report`, `nesting` and `example`; words and answers are looked at here.
 // An edition is terminal, issue or the file of a table, - too; of two, only one can be standard input.
+#![tactic(auto)]
+
 mod check;
 mod nested;
 

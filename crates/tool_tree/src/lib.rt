@@ -1,6 +1,8 @@
 // The command tree FILE: lists the objects of a foreign card, each indented by its depth: tag, address, length and, if it is short text, the value.
 // How the run ends is promised; what is printed is tested, not proved. What the tags mean is the reader's.
 // The listing is made whole before its first line is written, so that a refusal is one line and nothing before it.
+#![tactic(auto)]
+
 ghost use Rattle.std.specs.Prelude.{◌<◌};
 
 use libc::STDOUT_FILENO;

@@ -1,6 +1,8 @@
 // The four words of one object, put into a room of words where they fit.
 // Any room, any place in it and any words may be handed over. How many words there are before is the caller's.
 // Where the four do not fit the room is left as it is.
+#![tactic(auto)]
+
 ghost use Rattle.std.specs.Prelude.{◌≡◌, [], ◌∷◌};
 ghost use Rattle.ground.specs.Rooms.{room_with};
 ghost use Rattle.tree.specs.Listing.{Entry};

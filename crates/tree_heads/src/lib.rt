@@ -1,6 +1,8 @@
 // What stands at a tag: an object's tag, where its value starts and how long it is, or what is wrong with it.
 // Any bytes, any address and any number of levels may be handed over. What the value holds is the caller's.
 // Where there is no byte, the address is past 4,096 or more than six levels are left, the answer is 0 at 0.
+#![tactic(auto)]
+
 ghost use Rattle.std.specs.Prelude.{◌≡◌, ◌-◌, ◌<◌, ◌≤◌, length};
 ghost use Rattle.tree.specs.Heads.{head_at, head_for};
 

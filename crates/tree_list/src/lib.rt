@@ -1,6 +1,8 @@
 // The objects of a foreign card: tag, depth, the tag's address and the value's length of each, outer before inner.
 // Any bytes and any room may be lent. What the tags and values mean is the caller's.
 // The bytes are read twice, before anything is put and then to put it, so that a refusal leaves the room as it is.
+#![tactic(auto)]
+
 ghost use Rattle.std.specs.Prelude.{◌≡◌, [], ◌∷◌, ◌+◌, ◌-◌, ◌*◌, ◌<◌, ◌≤◌, length};
 ghost use Rattle.ground.specs.Rooms.{room_with};
 ghost use Rattle.tree.specs.Listing.{listing, object, Entry};

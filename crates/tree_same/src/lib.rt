@@ -1,6 +1,8 @@
 // Whether some words are the listing of some bytes.
 // Any bytes and words may be lent. What the bytes are put together from is the caller's.
 // Bytes that are refused have no listing, so no words are theirs.
+#![tactic(auto)]
+
 ghost use Rattle.std.specs.Prelude.{◌≡◌};
 ghost use Rattle.ground.specs.Lists.{same_list};
 ghost use Rattle.tree_back.specs.Glue.{same_tree};

@@ -1,6 +1,8 @@
 // Whether a tag is none, and whether the value behind it is a list of objects.
 // Any byte may be handed over. What stands behind the tag is the caller's.
 // A tag whose low five bits are all ones would go on in a second byte: it is none here.
+#![tactic(auto)]
+
 ghost use Rattle.std.specs.Prelude.{◌≡◌};
 ghost use Rattle.tree.specs.Heads.{bad_tag, is_list};
 

@@ -1,6 +1,8 @@
 // How many plain bytes an object takes: a list takes none.
 // Any tag and length may be handed over. Whether the tag is one is the caller's.
 // Bit '20' alone says that an object is a list.
+#![tactic(auto)]
+
 ghost use Rattle.std.specs.Prelude.{◌≡◌};
 ghost use Rattle.tree_back.specs.Glue.{value_size};
 

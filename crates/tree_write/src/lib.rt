@@ -1,6 +1,8 @@
 // Writing back a listing of a foreign card: the bytes that have this listing and these plain values.
 // Any words, values and room may be lent. The values are those of the objects that are no lists, end to end in the order of the listing.
 // What is put together is listed again and compared, so that nothing is written that the listing would not give back.
+#![tactic(auto)]
+
 ghost use Rattle.std.specs.Prelude.{◌≡◌, true, ◌≤◌, length};
 ghost use Rattle.std.proofs.lemmas.List.Edits.{sets};
 ghost use Rattle.tree_back.specs.Glue.{object_bytes, fits, step_of, glue, GluedIn};

@@ -1,12 +1,14 @@
 // A view: a lent image and a table of places, with two calls that hand on to `lookup`.
 // Any image and any table may be held, also ones that do not belong together; a view of an image's own table is for its maker to make.
 // It is a struct that holds a reference, so a function that takes or has one is proved by hand; others take image and table, and call `lookup`.
+#![tactic(auto)]
+
 ghost use Rattle.std.specs.Prelude.{◌≡◌};
 ghost use Rattle.lookup.specs.Parts.{is_there, part_at};
 
 use card::Places;
 
-#[derive(Drop)]
+#[derive(Clone, Copy)]
 pub struct View<'a> {
     pub image: &'a [u8],
     pub table: Places,

@@ -1,6 +1,8 @@
 // A record as 479 bytes, and back.
 // What a record says is taken as it stands: whether it may be written, others ask.
 // Of bytes of another size comes the empty record; a room of another size is left as it is.
+#![tactic(auto)]
+
 ghost use Rattle.std.specs.Prelude.{◌≡◌, [], ◌∷◌, ◌++◌, map, ℕ, ◌+◌, ◌≤◌, ◌<◌, length, get_or};
 ghost use Rattle.card.specs.Content.{no_object};
 ghost use Rattle.ground.specs.Pieces.{pieces, joined};

@@ -1,6 +1,8 @@
 // An edition as a table of 103 bytes, and back.
 // What a table says is taken as it stands: whether an edition is well formed, others ask.
 // Of bytes of another size, or with a byte outside the format, comes an edition that no image passes; a room of another size is left as it is.
+#![tactic(auto)]
+
 ghost use Rattle.std.specs.Prelude.{◌≡◌, cond, ◌&&◌, leb, length, ◌+◌, ◌≤◌};
 ghost use Rattle.ground.specs.Pieces.{four_bytes, joined};
 ghost use Rattle.ground.specs.Rooms.{Put};

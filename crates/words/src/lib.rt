@@ -1,6 +1,8 @@
 // What the commands of ./kvk share: how a run ends, what is said of bad usage, a listing, what is wrong with a card in words, a word of hex digits.
 // What a command does, and which words it takes, is its own. What is said goes to standard error, what is written to standard output; `put_name` is told where.
 // `say_refused` reads the card again: it is told no refusal, so that it cannot be told a wrong one.
+#![tactic(auto)]
+
 mod hex;
 mod listed;
 mod wrong;

@@ -1,6 +1,8 @@
 // The writer: a record becomes the 256 bytes of a card, or is refused and the buffer is left as it is.
 // Any edition, table, record and buffer may be lent.
 // Nothing is written before all is checked, and the checksum is computed here: no entry point takes it.
+#![tactic(auto)]
+
 mod body;
 mod fields;
 mod filler;

@@ -1,0 +1,164 @@
+-- How far a list agrees with another, part by part. Assumes nothing.
+use Prim.Native.Nat.{ℕ, zero, suc, ◌+◌, ◌-◌, ◌≤◌, ◌<◌}
+use native.Mathlib.Nat.{le_of_suc-le-suc}
+use native.Mathlib.Omega.{arith}
+use borrow.Author.Count.{below_more}
+use borrow.Author.Tests.{eqb-true, eqb-false, eq-eqb, ne_eqb}
+use mathlib.Core.Path.{◌≡◌, refl, sym, ap, ◌∙◌}
+use mathlib.Core.Bool.{Bool, true, false, cond}
+use mathlib.Core.List.{List, [], ◌∷◌, ◌++◌}
+use lib.Bits.{bit_or, bit_xor, or_add_and, xor_add_and, and_le_l, and_le_r, xor_self}
+use lib.Dec.{eqb}
+use lib.ListN.{length, get_or, take, drop, replicate, length-replicate, get_or-replicate, length-drop}
+use lib.Seq.{drop-drop, take_all, ext_get_or}
+use Rattle.ground.specs.Lists.{agree, same_list}
+use Rattle.ground.proofs.Lists.{true_false, agree-pass, agree-stop, agree_end, agree_same, same_self, same_equal}
+
+-- what lies behind the length of the first list is not looked at
+pub agree_cut : (n : ℕ) (xs zs : List ℕ) → length xs ≤ n → agree xs (take n zs) ≡ agree xs zs
+unfolding agree
+agree_cut n [] zs h = refl
+agree_cut zero (x ∷ xs) zs h = absurd (omega arith)
+agree_cut (suc n) (x ∷ xs) [] h = refl
+agree_cut (suc n) (x ∷ xs) (z ∷ zs) h = rw (agree_cut n xs zs (le_of_suc-le-suc h))
+
+-- a list agrees with its own head
+pub agree_own : (n : ℕ) (zs : List ℕ) → agree (take n zs) zs ≡ length (take n zs)
+unfolding agree
+agree_own zero zs = refl
+agree_own (suc n) [] = refl
+agree_own (suc n) (z ∷ zs) = rw (eq-eqb z z refl) (ap suc (agree_own n zs))
+
+-- two parts, where the first differs, and where it does not
+pub agree_short : (xs ys zs : List ℕ) → agree xs zs < length xs → agree (xs ++ ys) zs ≡ agree xs zs
+unfolding agree
+agree_short [] ys zs h = absurd (omega arith)
+agree_short (x ∷ xs) ys [] h = refl
+agree_short (x ∷ xs) ys (z ∷ zs) h = go (eqb x z) h (agree_short xs ys zs)
+  where
+    go : (q : Bool) → cond q (suc (agree xs zs)) 0 < suc (length xs) → (agree xs zs < length xs → agree (xs ++ ys) zs ≡ agree xs zs)
+        → cond q (suc (agree (xs ++ ys) zs)) 0 ≡ cond q (suc (agree xs zs)) 0
+    go true l ih = ap suc (ih (le_of_suc-le-suc l))
+    go false l ih = refl
+
+pub agree_over : (xs ys zs : List ℕ) → length xs ≤ agree xs zs → agree (xs ++ ys) zs ≡ length xs + agree ys (drop (length xs) zs)
+unfolding agree
+agree_over [] ys zs h = omega arith
+agree_over (x ∷ xs) ys [] h = absurd (omega arith)
+agree_over (x ∷ xs) ys (z ∷ zs) h = go (eqb x z) h (agree_over xs ys zs)
+  where
+    go : (q : Bool) → suc (length xs) ≤ cond q (suc (agree xs zs)) 0
+        → (length xs ≤ agree xs zs → agree (xs ++ ys) zs ≡ length xs + agree ys (drop (length xs) zs))
+        → cond q (suc (agree (xs ++ ys) zs)) 0 ≡ suc (length xs) + agree ys (drop (length xs) zs)
+    go true l ih = let e = ih (le_of_suc-le-suc l) in omega arith
+    go false l ih = absurd (omega arith)
+
+-- the same by address, from `at` on
+module _ (s : List ℕ) (at : ℕ) (xs ys : List ℕ) where
+  pub run-stops : agree xs (drop at s) < length xs → at + agree (xs ++ ys) (drop at s) ≡ at + agree xs (drop at s)
+  run-stops h = ap (λ (n : ℕ). at + n) (agree_short xs ys (drop at s) h)
+
+  pub run-passes : length xs ≤ agree xs (drop at s) → at + agree (xs ++ ys) (drop at s) ≡ at + length xs + agree ys (drop (at + length xs) s)
+  run-passes h = rw (agree_over xs ys (drop at s) h, drop-drop) (omega arith)
+
+-- .. where the first part was counted in a part of the bytes
+module _ (s : List ℕ) (at k : ℕ) (xs ys : List ℕ) {n : ℕ} (counted : n ≡ agree xs (take k (drop at s))) (within : length xs ≤ k) where
+  pub part-stops : n < length xs → at + n ≡ at + agree (xs ++ ys) (drop at s)
+  part-stops h =
+      let e = counted ∙ agree_cut k xs (drop at s) within in
+      ap (λ (m : ℕ). at + m) e ∙ sym (run-stops s at xs ys (omega arith))
+
+  pub part-passes : length xs ≤ n → at + agree (xs ++ ys) (drop at s) ≡ at + length xs + agree ys (drop (at + length xs) s)
+  part-passes h =
+      let e = counted ∙ agree_cut k xs (drop at s) within in
+      run-passes s at xs ys (omega arith)
+
+-- ---- a run of one byte, b, over the whole of a part
+module _ (part : List ℕ) (b i : ℕ) where
+  pub run-pass : i < length part → get_or part i 0 ≡ b
+      → i + agree (drop i (replicate (length part) b)) (drop i part) ≡ i + 1 + agree (drop (i + 1) (replicate (length part) b)) (drop (i + 1) part)
+  run-pass h e =
+      let l = length-replicate (length part) b in
+      agree-pass (replicate (length part) b) part i (omega arith) h (get_or-replicate (length part) i b 0 h ∙ sym e)
+
+  pub run-stop : i < length part → (get_or part i 0 ≡ b → ⊥) → i + agree (drop i (replicate (length part) b)) (drop i part) ≡ i
+  run-stop h e =
+      let l = length-replicate (length part) b in
+      agree-stop (replicate (length part) b) part i (omega arith) h (λ q. e (sym q ∙ get_or-replicate (length part) i b 0 h))
+
+  pub run_end : i ≡ length part → i + agree (drop i (replicate (length part) b)) (drop i part) ≡ i
+  run_end h =
+      let l = length-replicate (length part) b in
+      let z : agree (drop i (replicate (length part) b)) (drop i part) ≡ 0 = rw (h ∙ sym l) (agree_end (replicate (length part) b) _) in
+      omega arith
+
+-- bytes that are all b agree with a run of b
+pub agree_all : (k b : ℕ) (zs : List ℕ) → k ≤ length zs → ((i : ℕ) → i < k → get_or zs i 0 ≡ b) → agree (replicate k b) zs ≡ k
+unfolding agree
+agree_all zero b zs h e = refl
+agree_all (suc k) b [] h e = absurd (omega arith)
+agree_all (suc k) b (z ∷ zs) h e = rw (eq-eqb b z (sym (e 0 (omega arith)))) (ap suc (agree_all k b zs (le_of_suc-le-suc h) (λ i l. e (suc i) (omega arith))))
+
+pub agree_none : (k b : ℕ) (zs : List ℕ) → (get_or zs 0 0 ≡ b → ⊥) → agree (replicate k b) zs ≡ 0
+unfolding agree
+agree_none zero b zs d = refl
+agree_none (suc k) b [] d = refl
+agree_none (suc k) b (z ∷ zs) d = rw (ne_eqb b z (λ e. d (sym e)))
+
+-- a part that goes to the end of the bytes
+pub part_to_end : (n : ℕ) (s : List ℕ) → take (length s - n) (drop n s) ≡ drop n s
+part_to_end n s = take_all (length s - n) (drop n s) (simp length-drop (omega arith))
+
+-- ---- bytes compared by the bits in which some of them differ
+or_none : (a c : ℕ) → bit_or a c ≡ 0 → (a ≡ 0) × (c ≡ 0)
+or_none a c e =
+    let s = or_add_and a c in
+    let l = and_le_l a c in
+    let r = and_le_r a c in
+    (omega arith, omega arith)
+
+xor_none : (a c : ℕ) → bit_xor a c ≡ 0 → a ≡ c
+xor_none a c e =
+    let s = xor_add_and a c in
+    let l = and_le_l a c in
+    let r = and_le_r a c in
+    omega arith
+
+-- the first i bytes are those wanted
+abbrev pub AllAre : List ℕ → (ℕ → ℕ) → ℕ → Type 0
+AllAre part want i = (k : ℕ) → k < i → get_or part k 0 ≡ want k
+
+-- no bit differs so far exactly where all bytes so far are those wanted
+pub record Differs (part : List ℕ) (want : ℕ → ℕ) (difference i : ℕ) : Type 0 where
+  pub none : difference ≡ 0 → AllAre part want i
+  pub some : AllAre part want i → difference ≡ 0
+
+pub differs_start : (part : List ℕ) (want : ℕ → ℕ) → Differs part want 0 0
+differs_start part want = record { none = λ e k h. absurd (omega arith); some = λ a. refl }
+
+pub differs_next : (part : List ℕ) (want : ℕ → ℕ) (d i : ℕ) → Differs part want d i → Differs part want (bit_or d (bit_xor (get_or part i 0) (want i))) (i + 1)
+differs_next part want d i w = record {
+  none = λ e. let z = or_none d (bit_xor (get_or part i 0) (want i)) e in below_more (λ (k : ℕ). get_or part k 0 ≡ want k) i (w.none z.0) (xor_none (get_or part i 0) (want i) z.1);
+  some = λ a. rw (w.some (λ k h. a k (omega arith)), a i (omega arith), xor_self (want i));
+}
+
+-- .. of a run of b
+pub differs_run : (part : List ℕ) (b d : ℕ) → Differs part (λ (k : ℕ). b) d (length part) → eqb d 0 ≡ eqb (agree (replicate (length part) b) part) (length part)
+differs_run part b d w = go (eqb d 0) refl
+  where
+    go : (q : Bool) → eqb d 0 ≡ q → q ≡ eqb (agree (replicate (length part) b) part) (length part)
+    go true e = sym (eq-eqb _ _ (agree_all (length part) b part (omega arith) (w.none (eqb-true d 0 e))))
+    go false e = sym (ne_eqb _ _ (λ same. eqb-false d 0 e (w.some (λ k h.
+        let l = length-replicate (length part) b in
+        let is : replicate (length part) b ≡ part = agree_same (replicate (length part) b) part l (same ∙ sym l) in
+        ap (λ (x : List ℕ). get_or x k 0) (sym is) ∙ get_or-replicate (length part) k b 0 h))))
+
+-- .. of another part
+pub differs_part : (part other : List ℕ) (d : ℕ) → length part ≡ length other → Differs part (λ (k : ℕ). get_or other k 0) d (length other) → eqb d 0 ≡ same_list part other
+differs_part part other d n w = go (eqb d 0) refl (same_list part other) refl
+  where
+    go : (q : Bool) → eqb d 0 ≡ q → (r : Bool) → same_list part other ≡ r → q ≡ r
+    go true e true f = refl
+    go false e false f = refl
+    go true e false f = absurd (true_false (same_self other) (rw (ext_get_or 0 part other n (λ k h. w.none (eqb-true d 0 e) k (omega arith))) at f))
+    go false e true f = absurd (eqb-false d 0 e (w.some (λ k h. ap (λ (x : List ℕ). get_or x k 0) (same_equal part other f))))
