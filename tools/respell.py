@@ -19,7 +19,7 @@ FIELD = re.compile(r"(?:^|[{;])\s*([a-z][^\s:(){}.;,]*) : ")
 # A name that would fall together with another in a file that has both.
 # a lemma named as the definition that it speaks of gets `_lem`.
 LEMMAS = """length-field alike-below filler-last lent-edition bytes-at formed-from length-at value-at names-put status-shown status-object spaced-size range-of
-object-by look-by tags-of push-all places-by head-text field-behind on-field head-for places-room lent-record record-room table-room byte-at""".split()
+numbers-put row-text object-bytes object-by look-by tags-of push-all places-by head-text field-behind on-field head-for places-room lent-record record-room table-room byte-at""".split()
 EXCEPT = {name: name.replace("-", "_") + "_lem" for name in LEMMAS}
 # The same for lemmas that are spelled with '_' already, in the crates that have both.
 BESIDE = {
@@ -58,7 +58,8 @@ def own_names():
             continue
         inside = False
         for line in read(path).split("\n"):
-            found = DEFINES.match(line)
+            # A lemma below a `module` with parameters is indented.
+            found = DEFINES.match(line) or re.match(r"\s+pub ([a-z][^\s:(){}.;,]*) : ", line)
             if found:
                 names.add(found.group(1))
             head = re.match(r"(?:(?:pub|unfoldable|abbrev) )*record ", line)
@@ -79,11 +80,11 @@ def alias(path, text):
     return re.sub(rf"(?<![\w.·-]){old}(?=\.)", new, text)
 
 
-def turned_in(path, turn, proof):
+def turned_in(path, turn, text, proof):
     """Returns the names to turn in a file; a goal that a Proof.antt answers keeps its name there."""
     out = dict(turn)
     for below, more in BESIDE.items():
-        if path.startswith(below):
+        if path.startswith(below) and not any(re.search(rf"\b{new}\b", text) for new in more.values()):
             out.update(more)
     for name in re.findall(r"(?m)^(?:pub )?([a-z][^\s:(){}.;,]*) : tie\.", proof):
         out.pop(name, None)
@@ -108,7 +109,7 @@ def main():
     for path in sorted(paths):
         text = alias(path, read(path))
         proof = os.path.basename(path) == "Proof.antt"
-        own = turned_in(path, turn, text if proof else "")
+        own = turned_in(path, turn, text, text if proof else "")
         code = re.sub(r"(?m)^\s*--.*$", "", text) if path.endswith(".antt") else re.sub(r"(?m)^\s*//.*$", "", text)
         # A part of a path in a use line is a module.
         code = re.sub(r"(?m)^(ghost |pub )*use [^{\n]*", "", code)

@@ -44,9 +44,9 @@ abbrev refused_by : Refusal → Reading
 refused_by x = record { refusal = x; content = empty_record }
 
 module _ (t s : List ℕ) (p : Places) (is : p ≡ table_places t s) where
-  pub fills-refused : (p.refusal.number ≡ 0 → ⊥) → refused_by p.refusal ≡ table_reading t s
+  pub fills_refused : (p.refusal.number ≡ 0 → ⊥) → refused_by p.refusal ≡ table_reading t s
   unfolding table_places table_reading gate no_places
-  fills-refused h = go (eqb (length s) 256) (eqb (length t) 103) is
+  fills_refused h = go (eqb (length s) 256) (eqb (length t) 103) is
     where
       go : (q r : Bool) → p ≡ gate q (no_places (refuse 1 0 0)) (gate r (no_places (refuse 2 0 0)) (places (edition_from t) s))
           → refused_by p.refusal ≡ gate q (refused_by (refuse 1 0 0)) (gate r (refused_by (refuse 2 0 0)) (reading (edition_from t) s))
@@ -59,9 +59,9 @@ module _ (t s : List ℕ) (p : Places) (is : p ≡ table_places t s) where
     pub given : Given (edition_from t) s p
     pub under : reading (edition_from t) s ≡ table_reading t s
 
-  pub fills-accepted : p.refusal.number ≡ 0 → Filled
+  pub fills_accepted : p.refusal.number ≡ 0 → Filled
   unfolding table_places table_reading gate no_places edition_from pieces
-  fills-accepted z = go (eqb (length s) 256) refl (eqb (length t) 103) refl is
+  fills_accepted z = go (eqb (length s) 256) refl (eqb (length t) 103) refl is
     where
       go : (q : Bool) → eqb (length s) 256 ≡ q → (r : Bool) → eqb (length t) 103 ≡ r
           → p ≡ gate q (no_places (refuse 1 0 0)) (gate r (no_places (refuse 2 0 0)) (places (edition_from t) s)) → Filled

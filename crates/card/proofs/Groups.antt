@@ -42,13 +42,13 @@ some_high a b c h = go (ltb 27 a) refl (ltb 27 b) refl (ltb 27 c) refl h
     go false e false f false g z = absurd (let w : ◌≡◌ {A = ℕ} 0 1 = cc in omega arith)
 
 module _ (alone : Bool) (a b c n : ℕ) (counted : n ≡ count_present a b c) where
-  pub fits-alone : n ≤ 1 → sum_fits alone a b c ≡ alone
+  pub fits_alone : n ≤ 1 → sum_fits alone a b c ≡ alone
   unfolding sum_fits
-  fits-alone h = rw (← counted, le-leb n 1 h)
+  fits_alone h = rw (← counted, le-leb n 1 h)
 
-  pub fits-never : 1 < n → past27 a b c ≡ true → sum_fits alone a b c ≡ false
+  pub fits_never : 1 < n → past27 a b c ≡ true → sum_fits alone a b c ≡ false
   unfolding sum_fits
-  fits-never h p =
+  fits_never h p =
       let high = some_high a b c p in
       rw (← counted, lt-leb n 1 h, lt-leb (a + b + c) 27 high, lt-leb (a + b + c) 26 (omega arith)) (same (eqb n 2))
     where
@@ -56,10 +56,10 @@ module _ (alone : Bool) (a b c n : ℕ) (counted : n ≡ count_present a b c) wh
       same true = refl
       same false = refl
 
-  pub fits-two : 1 < n → n ≡ 2 → sum_fits alone a b c ≡ leb (a + b + c) 27
+  pub fits_two : 1 < n → n ≡ 2 → sum_fits alone a b c ≡ leb (a + b + c) 27
   unfolding sum_fits
-  fits-two h e = rw (← counted, lt-leb n 1 h, eq-eqb n 2 e)
+  fits_two h e = rw (← counted, lt-leb n 1 h, eq-eqb n 2 e)
 
-  pub fits-three : 1 < n → (n ≡ 2 → ⊥) → sum_fits alone a b c ≡ leb (a + b + c) 26
+  pub fits_three : 1 < n → (n ≡ 2 → ⊥) → sum_fits alone a b c ≡ leb (a + b + c) 26
   unfolding sum_fits
-  fits-three h e = rw (← counted, lt-leb n 1 h, ne_eqb n 2 e)
+  fits_three h e = rw (← counted, lt-leb n 1 h, ne_eqb n 2 e)

@@ -104,7 +104,7 @@ module _ (at : ℕ) (vs : List (List ℕ)) (many : length vs ≡ 16) where
       let here = get_or-drop k ns (leading is_zero (drop k ns)) 0 in
       tag-there (first_present k ns) h (λ z. true_false (eq-eqb (get_or ns (first_present k ns) 0) 0 z) (rw here at stop))
 
-  pub sums-starts : sums_refusal (tag_before (starts_from at vs 0 16)) ns ≡ sums_refusal (tag_at at vs) ns
-  sums-starts =
+  pub sums_starts : sums_refusal (tag_before (starts_from at vs 0 16)) ns ≡ sums_refusal (tag_at at vs) ns
+  sums_starts =
       let long : length ns ≡ 16 = length-map vs length ∙ many in
       sums_place _ _ ns (λ e. present-there 6 (names_some ns long e)) (λ e. present-there 12 (town_some ns long e))

@@ -20,9 +20,9 @@ module _ (list name : List ℕ) (at e i : ℕ) (h : at < length list) (is : e �
   unfolding leading
   place_here s = rw (line_next list at e h is, s) (omega arith)
 
-  pub place-farther : same_list (take (e - at) (drop at list)) name ≡ false → i + 1 + place_of (lines (drop (e + 1) list)) name ≡ i + place_of (lines (drop at list)) name
+  pub place_farther : same_list (take (e - at) (drop at list)) name ≡ false → i + 1 + place_of (lines (drop (e + 1) list)) name ≡ i + place_of (lines (drop at list)) name
   unfolding leading
-  place-farther s = rw (line_next list at e h is, s) (omega arith)
+  place_farther s = rw (line_next list at e h is, s) (omega arith)
 
 pub place_over : (list name : List ℕ) (at i : ℕ) → length list ≤ at → i ≡ i + place_of (lines (drop at list)) name
 unfolding leading
@@ -34,20 +34,20 @@ module _ (name : List ℕ) (n : ℕ) where
   unfolding key_named
   by_name e h = rw (← e, lt-ltb n 20 h)
 
-  pub by-tag : (k : ℕ) → n ≡ place_of names name → 20 ≤ n → k ≡ place_of tags name → k ≡ key_named name
+  pub by_tag : (k : ℕ) → n ≡ place_of names name → 20 ≤ n → k ≡ place_of tags name → k ≡ key_named name
   unfolding key_named
-  by-tag k e h t = rw (← e, le-ltb n 20 h) t
+  by_tag k e h t = rw (← e, le-ltb n 20 h) t
 
 -- ---- the name at a place
 pub from_start : (ls : List (List ℕ)) (n : ℕ) → get_or ls (n - 0) [] ≡ get_or ls n []
 from_start ls n = let z : n - 0 ≡ n = omega arith in rw z
 
 module _ (list : List ℕ) (at e i n : ℕ) (h : at < length list) (is : e ≡ feed_from list at) where
-  pub line-here : i ≡ n → take (e - at) (drop at list) ≡ get_or (lines (drop at list)) (n - i) []
-  line-here s = let z : n - i ≡ 0 = omega arith in rw (line_next list at e h is, z)
+  pub line_here : i ≡ n → take (e - at) (drop at list) ≡ get_or (lines (drop at list)) (n - i) []
+  line_here s = let z : n - i ≡ 0 = omega arith in rw (line_next list at e h is, z)
 
-  pub line-farther : i < n → get_or (lines (drop (e + 1) list)) (n - (i + 1)) [] ≡ get_or (lines (drop at list)) (n - i) []
-  line-farther s = let z : n - i ≡ suc (n - (i + 1)) = omega arith in rw (line_next list at e h is, z)
+  pub line_farther : i < n → get_or (lines (drop (e + 1) list)) (n - (i + 1)) [] ≡ get_or (lines (drop at list)) (n - i) []
+  line_farther s = let z : n - i ≡ suc (n - (i + 1)) = omega arith in rw (line_next list at e h is, z)
 
 pub no_line : (list : List ℕ) (at n : ℕ) → length list ≤ at → [] ≡ get_or (lines (drop at list)) n []
 no_line list at n h = rw (lines_over list at h)

@@ -13,5 +13,5 @@ module _ {A : Type 0} (f : ℕ → A) (xs : List A) (k : ℕ) (done : take k xs 
   unfolding listed
   listed_more h e = rw (e, add-one, take-suc-set, done)
 
-  pub listed-all : k ≡ length xs → xs ≡ listed k f
-  listed-all h = sym (take_all k xs (omega arith)) ∙ done
+  pub listed_all : k ≡ length xs → xs ≡ listed k f
+  listed_all h = sym (take_all k xs (omega arith)) ∙ done

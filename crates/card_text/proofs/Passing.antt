@@ -18,47 +18,47 @@ module _ (text : List ℕ) (at e n : ℕ) (h : at < length text) (is : e ≡ fee
   line = take (e - at) (drop at text)
 
   module _ (key k : ℕ) (said : k ≡ key_of line) where
-    pub number-here : k ≡ key → n ≡ line_from key n (lines (drop at text))
+    pub number_here : k ≡ key → n ≡ line_from key n (lines (drop at text))
     unfolding line_from
-    number-here s = rw (line_next text at e h is, ← said, eq-eqb k key s)
+    number_here s = rw (line_next text at e h is, ← said, eq-eqb k key s)
 
-    pub number-farther : (k ≡ key → ⊥) → line_from key (n + 1) (lines (drop (e + 1) text)) ≡ line_from key n (lines (drop at text))
+    pub number_farther : (k ≡ key → ⊥) → line_from key (n + 1) (lines (drop (e + 1) text)) ≡ line_from key n (lines (drop at text))
     unfolding line_from
-    number-farther s = rw (line_next text at e h is, ← said, ne_eqb k key s, add-one n)
+    number_farther s = rw (line_next text at e h is, ← said, ne_eqb k key s, add-one n)
 
-    pub line-here : k ≡ key → line ≡ line_with key (lines (drop at text))
+    pub line_here : k ≡ key → line ≡ line_with key (lines (drop at text))
     unfolding line_with
-    line-here s = rw (line_next text at e h is, ← said, eq-eqb k key s)
+    line_here s = rw (line_next text at e h is, ← said, eq-eqb k key s)
 
-    pub line-farther : (k ≡ key → ⊥) → line_with key (lines (drop (e + 1) text)) ≡ line_with key (lines (drop at text))
+    pub line_farther : (k ≡ key → ⊥) → line_with key (lines (drop (e + 1) text)) ≡ line_with key (lines (drop at text))
     unfolding line_with
-    line-farther s = rw (line_next text at e h is, ← said, ne_eqb k key s)
+    line_farther s = rw (line_next text at e h is, ← said, ne_eqb k key s)
 
-  pub part-whole : at ≤ e → e ≤ length text → part_of text at e ≡ line
-  part-whole a b = rw (le-leb e (length text) b, le-leb at e a)
+  pub part_whole : at ≤ e → e ≤ length text → part_of text at e ≡ line
+  part_whole a b = rw (le-leb e (length text) b, le-leb at e a)
 
   module _ (m : ℕ) (said : m ≡ fault_of_line text line n) where
-    pub fault-here : (m ≡ 0 → ⊥) → fault_at m n line ≡ fault_from text n (lines (drop at text))
+    pub fault_here : (m ≡ 0 → ⊥) → fault_at m n line ≡ fault_from text n (lines (drop at text))
     unfolding fault_from
-    fault-here s = rw (line_next text at e h is, ← said, ne_eqb m 0 s)
+    fault_here s = rw (line_next text at e h is, ← said, ne_eqb m 0 s)
 
-    pub fault-farther : m ≡ 0 → fault_from text (n + 1) (lines (drop (e + 1) text)) ≡ fault_from text n (lines (drop at text))
+    pub fault_farther : m ≡ 0 → fault_from text (n + 1) (lines (drop (e + 1) text)) ≡ fault_from text n (lines (drop at text))
     unfolding fault_from
-    fault-farther s = rw (line_next text at e h is, ← said, eq-eqb m 0 s, add-one n)
+    fault_farther s = rw (line_next text at e h is, ← said, eq-eqb m 0 s, add-one n)
 
 pub part_empty : (text : List ℕ) → part_of text 0 0 ≡ []
 part_empty text = rw (le-leb 0 (length text) (omega arith))
 
 -- no line is left
 module _ (text : List ℕ) (at n : ℕ) (h : length text ≤ at) where
-  pub number-over : (key : ℕ) → 0 ≡ line_from key n (lines (drop at text))
+  pub number_over : (key : ℕ) → 0 ≡ line_from key n (lines (drop at text))
   unfolding line_from
-  number-over key = rw (lines_over text at h)
+  number_over key = rw (lines_over text at h)
 
-  pub line-over : (key : ℕ) → [] ≡ line_with key (lines (drop at text))
+  pub line_over : (key : ℕ) → [] ≡ line_with key (lines (drop at text))
   unfolding line_with
-  line-over key = rw (lines_over text at h)
+  line_over key = rw (lines_over text at h)
 
-  pub fault-over : no_fault ≡ fault_from text n (lines (drop at text))
+  pub fault_over : no_fault ≡ fault_from text n (lines (drop at text))
   unfolding fault_from
-  fault-over = rw (lines_over text at h)
+  fault_over = rw (lines_over text at h)

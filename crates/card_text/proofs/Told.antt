@@ -25,10 +25,10 @@ use Rattle.card_text.specs.Records.{object_said, byte_or, free_said, objects_sai
 
 -- ---- two hex digits
 module _ (value : List ℕ) (i b d h l : ℕ) where
-  pub byte-there : i < length value / 2 → b ≡ get_or value (2 * i) 0 → d ≡ get_or value (2 * i + 1) 0 → h ≡ digit_value b → l ≡ digit_value d
+  pub byte_there : i < length value / 2 → b ≡ get_or value (2 * i) 0 → d ≡ get_or value (2 * i + 1) 0 → h ≡ digit_value b → l ≡ digit_value d
       → h % 16 * 16 + l % 16 ≡ byte_at value i
   unfolding byte_at
-  byte-there s e f g k = rw (lt-ltb i (length value / 2) s, ← e, ← f, ← g, ← k)
+  byte_there s e f g k = rw (lt-ltb i (length value / 2) s, ← e, ← f, ← g, ← k)
 
 -- ---- the letters of a value
 module _ (v : List ℕ) (t : Turned) (is : t ≡ coded_answer (replicate 255 0) v) where
@@ -40,13 +40,13 @@ module _ (v : List ℕ) (t : Turned) (is : t ≡ coded_answer (replicate 255 0) 
   unfolding coded
   taken = ap (λ (x : Turned). x.taken) is
 
-  pub letters-many : t.made ≡ 255 → length v ≡ letters_taken v
+  pub letters_many : t.made ≡ 255 → length v ≡ letters_taken v
   unfolding letters_taken
-  letters-many h = rw (← made, eq-eqb t.made 255 h)
+  letters_many h = rw (← made, eq-eqb t.made 255 h)
 
-  pub letters-few : (t.made ≡ 255 → ⊥) → t.taken ≡ letters_taken v
+  pub letters_few : (t.made ≡ 255 → ⊥) → t.taken ≡ letters_taken v
   unfolding letters_taken
-  letters-few h = rw (← made, ne_eqb t.made 255 h) taken
+  letters_few h = rw (← made, ne_eqb t.made 255 h) taken
 
   short : length (coded v) ≤ 255
   unfolding coded
@@ -55,10 +55,10 @@ module _ (v : List ℕ) (t : Turned) (is : t ≡ coded_answer (replicate 255 0) 
   abbrev object_with : ℕ → List ℕ → Object
   object_with n bs = record { length = n; bytes = bs }
 
-  pub object-told : (room after : List ℕ) → room ≡ sets (replicate 255 0) 0 (take 255 (code v)) → after ≡ room_with (replicate 28 0) 0 (take 28 room)
+  pub object_told : (room after : List ℕ) → room ≡ sets (replicate 255 0) 0 (take 255 (code v)) → after ≡ room_with (replicate 28 0) 0 (take 28 room)
       → object_with (t.made % 256) after ≡ object_said v
   unfolding object_said coded
-  object-told room after e p =
+  object_told room after e p =
       let n : t.made % 256 ≡ length (coded v) = omega (arith, made, short) in
       let long : length room ≡ 255 = ap length e ∙ length-sets (replicate 255 0) 0 (take 255 (code v)) in
       let whole : room ≡ coded v ++ replicate (255 - length (coded v)) 0 = e ∙ sets_blank 255 0 (coded v) short in
@@ -67,50 +67,50 @@ module _ (v : List ℕ) (t : Turned) (is : t ≡ coded_answer (replicate 255 0) 
 
 -- ---- the fault of a value
 module _ (key : ℕ) (v : List ℕ) where
-  pub fault-letter : (n : ℕ) → n ≡ letters_taken v → key < 16 → n < length v → 3 ≡ fault_of_value key v
+  pub fault_letter : (n : ℕ) → n ≡ letters_taken v → key < 16 → n < length v → 3 ≡ fault_of_value key v
   unfolding fault_of_value
-  fault-letter n e k h = rw (lt-ltb key 16 k, ← e, lt-ltb n (length v) h)
+  fault_letter n e k h = rw (lt-ltb key 16 k, ← e, lt-ltb n (length v) h)
 
-  pub no-fault-letter : (n : ℕ) → n ≡ letters_taken v → key < 16 → length v ≤ n → 0 ≡ fault_of_value key v
+  pub no_fault_letter : (n : ℕ) → n ≡ letters_taken v → key < 16 → length v ≤ n → 0 ≡ fault_of_value key v
   unfolding fault_of_value
-  no-fault-letter n e k h = rw (lt-ltb key 16 k, ← e, le-ltb n (length v) h)
+  no_fault_letter n e k h = rw (lt-ltb key 16 k, ← e, le-ltb n (length v) h)
 
   module _ (n : ℕ) (due : n ≡ digits_due key) (q : Bool) (is : q ≡ is_hex v n) (k : 16 ≤ key) where
     said : is_hex v (digits_due key) ≡ q
     said = ap (is_hex v) (sym due) ∙ sym is
 
-    pub no-fault-hex : q ≡ true → 0 ≡ fault_of_value key v
+    pub no_fault_hex : q ≡ true → 0 ≡ fault_of_value key v
     unfolding fault_of_value
-    no-fault-hex h = rw (le-ltb key 16 k, said, h)
+    no_fault_hex h = rw (le-ltb key 16 k, said, h)
 
-    pub fault-hex : q ≡ false → 4 ≡ fault_of_value key v
+    pub fault_hex : q ≡ false → 4 ≡ fault_of_value key v
     unfolding fault_of_value
-    fault-hex h = rw (le-ltb key 16 k, said, h)
+    fault_hex h = rw (le-ltb key 16 k, said, h)
 
 -- ---- the fault of a line
 module _ (text line : List ℕ) (n k : ℕ) (is : k ≡ key_of line) where
-  pub line-skipped : k ≡ 21 → 0 ≡ fault_of_line text line n
+  pub line_skipped : k ≡ 21 → 0 ≡ fault_of_line text line n
   unfolding fault_of_line
-  line-skipped h = rw (← is, eq-eqb k 21 h)
+  line_skipped h = rw (← is, eq-eqb k 21 h)
 
   module _ (a : k ≡ 21 → ⊥) where
-    pub line-unknown : k ≡ 20 → 1 ≡ fault_of_line text line n
+    pub line_unknown : k ≡ 20 → 1 ≡ fault_of_line text line n
     unfolding fault_of_line
-    line-unknown h = rw (← is, ne_eqb k 21 a, eq-eqb k 20 h)
+    line_unknown h = rw (← is, ne_eqb k 21 a, eq-eqb k 20 h)
 
     module _ (b : k ≡ 20 → ⊥) where
-      pub line-checksum : k ≡ 19 → 5 ≡ fault_of_line text line n
+      pub line_checksum : k ≡ 19 → 5 ≡ fault_of_line text line n
       unfolding fault_of_line
-      line-checksum h = rw (← is, ne_eqb k 21 a, ne_eqb k 20 b, eq-eqb k 19 h)
+      line_checksum h = rw (← is, ne_eqb k 21 a, ne_eqb k 20 b, eq-eqb k 19 h)
 
       module _ (c : k ≡ 19 → ⊥) (m : ℕ) (first : m ≡ line_of k text) where
-        pub line-again : m < n → 2 ≡ fault_of_line text line n
+        pub line_again : m < n → 2 ≡ fault_of_line text line n
         unfolding fault_of_line
-        line-again h = rw (← is, ne_eqb k 21 a, ne_eqb k 20 b, ne_eqb k 19 c, ← first, lt-ltb m n h)
+        line_again h = rw (← is, ne_eqb k 21 a, ne_eqb k 20 b, ne_eqb k 19 c, ← first, lt-ltb m n h)
 
-        pub line-value : n ≤ m → fault_of_value k (value_in line) ≡ fault_of_line text line n
+        pub line_value : n ≤ m → fault_of_value k (value_in line) ≡ fault_of_line text line n
         unfolding fault_of_line
-        line-value h = rw (← is, ne_eqb k 21 a, ne_eqb k 20 b, ne_eqb k 19 c, ← first, le-ltb m n h)
+        line_value h = rw (← is, ne_eqb k 21 a, ne_eqb k 20 b, ne_eqb k 19 c, ← first, le-ltb m n h)
 
 pub fault_told : (number n key place : ℕ) (line : List ℕ) → key ≡ key_of line → place ≡ letters_taken (value_in line)
     → ◌≡◌ {A = Fault} (record { number = number; line = n; key = key; place = place }) (fault_at number n line)
@@ -118,13 +118,13 @@ fault_told number n key place line e f = rw (e, f)
 
 -- ---- the bytes that stand for themselves
 module _ (text : List ℕ) (key other n : ℕ) (is : n ≡ line_of key text) where
-  pub byte-other : n ≡ 0 → other ≡ byte_or text key other
+  pub byte_other : n ≡ 0 → other ≡ byte_or text key other
   unfolding byte_or
-  byte-other h = rw (← is, eq-eqb n 0 h)
+  byte_other h = rw (← is, eq-eqb n 0 h)
 
-  pub byte-said : (n ≡ 0 → ⊥) → byte_at (value_of key text) 0 ≡ byte_or text key other
+  pub byte_said : (n ≡ 0 → ⊥) → byte_at (value_of key text) 0 ≡ byte_or text key other
   unfolding byte_or
-  byte-said h = rw (← is, ne_eqb n 0 h)
+  byte_said h = rw (← is, ne_eqb n 0 h)
 
 pub record_told : (text free : List ℕ) (number first last : ℕ) (objects : List Object) → first ≡ byte_or text 16 0x92 → free ≡ free_said (value_of 17 text) → last ≡ byte_or text 18 0x00
     → objects ≡ objects_said text → ◌≡◌ {A = Record} (record { first = first; free = free; last = last; objects = objects; number = number }) (record_said text number)

@@ -61,5 +61,5 @@ module _ (rs : List Row) (os : List Object) (i : ℕ) (h : i < 16) (k : length r
   pub rows_pass : told.number ≡ 0 → rows_from (i + 1) rs os ≡ rows_from i rs os
   rows_pass z = sym (rows_cons ∙ or_pass told (rows_from (i + 1) rs os) z)
 
-  pub rows-stop : (told.number ≡ 0 → ⊥) → rows_from i rs os ≡ told
-  rows-stop z = rows_cons ∙ or_stop told (rows_from (i + 1) rs os) z
+  pub rows_stop : (told.number ≡ 0 → ⊥) → rows_from i rs os ≡ told
+  rows_stop z = rows_cons ∙ or_stop told (rows_from (i + 1) rs os) z

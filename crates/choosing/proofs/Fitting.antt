@@ -85,9 +85,9 @@ module _ (long names : Bool) (a b c : Row) where
   abbrev picked : Three
   picked = chosen long names a b c
 
-  pub chosen-small : Small picked
+  pub chosen_small : Small picked
   unfolding chosen
-  chosen-small = three_small _ (least_below (weight_at long names a b c) 24388 24389 24389 (omega arith) (omega arith))
+  chosen_small = three_small _ (least_below (weight_at long names a b c) 24388 24389 24389 (omega arith) (omega arith))
 
   heavy : (t : Three) → fits names a b c t ≡ false → weight long names a b c t ≡ 1000
   unfolding weight
@@ -111,8 +111,8 @@ module _ (long names : Bool) (a b c : Row) where
       subst (λ (u : Three). weight long names a b c (chosen long names a b c) ≤ weight long names a b c u) (number_back t s)
       (least_is (weight_at long names a b c) 24388 24389 (number_of t) (omega (arith, s.first, s.second, s.third)))
 
-  pub chosen-fits : (t : Three) → Small t → fits names a b c t ≡ true → fits names a b c picked ≡ true
-  chosen-fits t s h = go (fits names a b c picked) refl
+  pub chosen_fits : (t : Three) → Small t → fits names a b c t ≡ true → fits names a b c picked ≡ true
+  chosen_fits t s h = go (fits names a b c picked) refl
     where
       go : (q : Bool) → fits names a b c picked ≡ q → q ≡ true
       go true e = refl
@@ -120,17 +120,17 @@ module _ (long names : Bool) (a b c : Row) where
 
 pub chosen_fewest : (names : Bool) (a b c : Row) (t : Three) → Small t → fits names a b c t ≡ true → size_in (chosen false names a b c) ≤ size_in t
 chosen_fewest names a b c t s h =
-    omega (arith, light false names a b c (chosen false names a b c) (chosen-fits false names a b c t s h), light false names a b c t h, chosen-least false names a b c t s)
+    omega (arith, light false names a b c (chosen false names a b c) (chosen_fits false names a b c t s h), light false names a b c t h, chosen-least false names a b c t s)
 
 pub chosen_most : (names : Bool) (a b c : Row) (t : Three) → Small t → fits names a b c t ≡ true → size_in t ≤ size_in (chosen true names a b c)
 chosen_most names a b c t s h =
     omega (
       arith,
-      light true names a b c (chosen true names a b c) (chosen-fits true names a b c t s h),
+      light true names a b c (chosen true names a b c) (chosen_fits true names a b c t s h),
       light true names a b c t h,
       chosen-least true names a b c t s,
       sizes_most t s,
-      sizes_most (chosen true names a b c) (chosen-small true names a b c),
+      sizes_most (chosen true names a b c) (chosen_small true names a b c),
     )
 
 -- ---- where those chosen keep the sum, they fit: else they are 28, 28 and 28

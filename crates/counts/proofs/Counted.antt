@@ -15,18 +15,18 @@ pub counts : Counts
 unfolding among count_trailing_zeros tags tally tally_pairs shortest longest first_allowed last_allowed is_text permitted shortest_of table terminal issue card_of full_values body
 counts = record {
   first_bytes = refl;
-  last-bytes-82 = refl;
-  last-bytes-92 = refl;
-  last-bytes-A2 = refl;
+  last_bytes_82 = refl;
+  last_bytes_92 = refl;
+  last_bytes_A2 = refl;
   digits = refl;
   text = refl;
   leads = refl;
   codes = refl;
   births = refl;
   expiries = refl;
-  terminal-lengths = refl;
-  issue-lengths = refl;
-  shortest-51 = refl;
-  longest-212 = refl;
-  longest-214 = refl;
+  terminal_lengths = refl;
+  issue_lengths = refl;
+  shortest_51 = refl;
+  longest_212 = refl;
+  longest_214 = refl;
 }

@@ -38,9 +38,9 @@ longest n = template_length (objects_of (card_of (set full_values 5 (replicate n
 
 pub record Counts : Type 0 where
   pub first_bytes : bytes first_allowed ≡ 3
-  pub last-bytes-82 : bytes (last_allowed 0x82) ≡ 2
-  pub last-bytes-92 : bytes (last_allowed 0x92) ≡ 1
-  pub last-bytes-A2 : bytes (last_allowed 0xA2) ≡ 1
+  pub last_bytes_82 : bytes (last_allowed 0x82) ≡ 2
+  pub last_bytes_92 : bytes (last_allowed 0x92) ≡ 1
+  pub last_bytes_A2 : bytes (last_allowed 0xA2) ≡ 1
   pub digits : bytes is_digit ≡ 10
   pub text : bytes is_text ≡ 79
   pub leads : bytes is_lead ≡ 3
@@ -48,8 +48,8 @@ pub record Counts : Type 0 where
   -- of two digits each: months 01 to 12 with days 00 to 31, and month 00 with day 00
   pub births : tally_pairs (is_birth 8) 100 100 ≡ 385
   pub expiries : tally (is_expiry 4) 100 ≡ 12
-  pub terminal-lengths : lengths_of terminal ≡ 27 ∷ 1 ∷ 1 ∷ 7 ∷ 2 ∷ 3 ∷ 14 ∷ 28 ∷ 15 ∷ 27 ∷ 1 ∷ 27 ∷ 3 ∷ 4 ∷ 22 ∷ 1 ∷ 1 ∷ []
-  pub issue-lengths : lengths_of issue ≡ 27 ∷ 1 ∷ 1 ∷ 7 ∷ 1 ∷ 1 ∷ 14 ∷ 28 ∷ 15 ∷ 27 ∷ 1 ∷ 27 ∷ 3 ∷ 4 ∷ 21 ∷ 1 ∷ 1 ∷ []
-  pub shortest-51 : shortest terminal.rows ≡ 51
-  pub longest-212 : longest 1 ≡ 212
-  pub longest-214 : longest 3 ≡ 214
+  pub terminal_lengths : lengths_of terminal ≡ 27 ∷ 1 ∷ 1 ∷ 7 ∷ 2 ∷ 3 ∷ 14 ∷ 28 ∷ 15 ∷ 27 ∷ 1 ∷ 27 ∷ 3 ∷ 4 ∷ 22 ∷ 1 ∷ 1 ∷ []
+  pub issue_lengths : lengths_of issue ≡ 27 ∷ 1 ∷ 1 ∷ 7 ∷ 1 ∷ 1 ∷ 14 ∷ 28 ∷ 15 ∷ 27 ∷ 1 ∷ 27 ∷ 3 ∷ 4 ∷ 21 ∷ 1 ∷ 1 ∷ []
+  pub shortest_51 : shortest terminal.rows ≡ 51
+  pub longest_212 : longest 1 ≡ 212
+  pub longest_214 : longest 3 ≡ 214

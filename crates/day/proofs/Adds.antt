@@ -16,8 +16,8 @@ use Rattle.day_index.proofs.Parts.{flat_append, flat_pieces}
 use Rattle.day.specs.Cards.{is_card}
 use Rattle.day.specs.Files.{Cards, no-cards, one-card, file_of, trailer, index_bytes, size_of, most_cards, count_in, images_in, file_refusal}
 use Rattle.day.specs.Calls.{answered, more_refusal, add_refusal, add_answer, add_room, room_after}
-use Rattle.day.proofs.Opens.{or_stop, or-on, gate-on, gate-off, Opened, opened}
-use Rattle.day.proofs.Sizes.{length_images, length_file, answered-any, room-kept, room-written}
+use Rattle.day.proofs.Opens.{or_stop, or_on, gate_on, gate_off, Opened, opened}
+use Rattle.day.proofs.Sizes.{length_images, length_file, answered_any, room_kept, room_written}
 
 module _ (s card : List ℕ) (size : ℕ) where
   abbrev cardTest : Refusal
@@ -29,50 +29,50 @@ module _ (s card : List ℕ) (size : ℕ) where
   abbrev countTest : Refusal
   countTest = gate (ltb (count_in s) most_cards) (refuse 43 0 0) sizeTest
 
-  pub add-file : ((file_refusal s).number ≡ 0 → ⊥) → add_refusal s card size ≡ file_refusal s
+  pub add_file : ((file_refusal s).number ≡ 0 → ⊥) → add_refusal s card size ≡ file_refusal s
   unfolding add_refusal
-  add-file h = or_stop (file_refusal s) countTest h
+  add_file h = or_stop (file_refusal s) countTest h
 
   module _ (z : (file_refusal s).number ≡ 0) where
     past : add_refusal s card size ≡ countTest
     unfolding add_refusal
-    past = or-on (file_refusal s) countTest z
+    past = or_on (file_refusal s) countTest z
 
-    pub add-many : 200 ≤ count_in s → add_refusal s card size ≡ refuse 43 0 0
-    add-many h = past ∙ gate-off _ _ (le-ltb (count_in s) 200 h)
+    pub add_many : 200 ≤ count_in s → add_refusal s card size ≡ refuse 43 0 0
+    add_many h = past ∙ gate_off _ _ (le-ltb (count_in s) 200 h)
 
     pub add_small : count_in s < 200 → size < size_of (count_in s + 1) → add_refusal s card size ≡ refuse 45 0 0
-    add_small h k = past ∙ gate-on _ _ (lt-ltb (count_in s) 200 h) ∙ gate-off _ _ (lt-leb (size_of (count_in s + 1)) size k)
+    add_small h k = past ∙ gate_on _ _ (lt-ltb (count_in s) 200 h) ∙ gate_off _ _ (lt-leb (size_of (count_in s + 1)) size k)
 
-    pub add-last : count_in s < 200 → size_of (count_in s + 1) ≤ size → add_refusal s card size ≡ gate (is_card card) (refuse 41 (count_in s) 0) none
-    add-last h k = past ∙ gate-on _ _ (lt-ltb (count_in s) 200 h) ∙ gate-on _ _ (le-leb (size_of (count_in s + 1)) size k)
+    pub add_last : count_in s < 200 → size_of (count_in s + 1) ≤ size → add_refusal s card size ≡ gate (is_card card) (refuse 41 (count_in s) 0) none
+    add_last h k = past ∙ gate_on _ _ (lt-ltb (count_in s) 200 h) ∙ gate_on _ _ (le-leb (size_of (count_in s + 1)) size k)
 
-    pub add-card : count_in s < 200 → size_of (count_in s + 1) ≤ size → is_card card ≡ false → add_refusal s card size ≡ refuse 41 (count_in s) 0
-    add-card h k t = add-last h k ∙ gate-off _ _ t
+    pub add_card : count_in s < 200 → size_of (count_in s + 1) ≤ size → is_card card ≡ false → add_refusal s card size ≡ refuse 41 (count_in s) 0
+    add_card h k t = add_last h k ∙ gate_off _ _ t
 
     pub add_none : count_in s < 200 → size_of (count_in s + 1) ≤ size → is_card card ≡ true → add_refusal s card size ≡ none
-    add_none h k t = add-last h k ∙ gate-on _ _ t
+    add_none h k t = add_last h k ∙ gate_on _ _ t
 
 -- ---- one card more, whatever it is
 module _ (n size : ℕ) where
-  pub more-many : 200 ≤ n → more_refusal n size ≡ refuse 43 0 0
+  pub more_many : 200 ≤ n → more_refusal n size ≡ refuse 43 0 0
   unfolding more_refusal
-  more-many h = gate-off _ _ (le-ltb n 200 h)
+  more_many h = gate_off _ _ (le-ltb n 200 h)
 
-  pub more-small : n < 200 → size < size_of (n + 1) → more_refusal n size ≡ refuse 45 0 0
+  pub more_small : n < 200 → size < size_of (n + 1) → more_refusal n size ≡ refuse 45 0 0
   unfolding more_refusal
-  more-small h k = gate-on _ _ (lt-ltb n 200 h) ∙ gate-off _ _ (lt-leb (size_of (n + 1)) size k)
+  more_small h k = gate_on _ _ (lt-ltb n 200 h) ∙ gate_off _ _ (lt-leb (size_of (n + 1)) size k)
 
-  pub more-none : n < 200 → size_of (n + 1) ≤ size → more_refusal n size ≡ none
+  pub more_none : n < 200 → size_of (n + 1) ≤ size → more_refusal n size ≡ none
   unfolding more_refusal
-  more-none h k = gate-on _ _ (lt-ltb n 200 h) ∙ gate-on _ _ (le-leb (size_of (n + 1)) size k)
+  more_none h k = gate_on _ _ (lt-ltb n 200 h) ∙ gate_on _ _ (le-leb (size_of (n + 1)) size k)
 
 -- what is refused before the card is looked at
 abbrev pub front_refusal : List ℕ → ℕ → Refusal
 front_refusal s size = or_else (file_refusal s) (more_refusal (count_in s) size)
 
 pub record Roomy (s : List ℕ) (size : ℕ) : Type 0 where
-  pub zero-file : (file_refusal s).number ≡ 0
+  pub zero_file : (file_refusal s).number ≡ 0
   pub few : count_in s < 200
   pub room : size_of (count_in s + 1) ≤ size
 
@@ -90,25 +90,25 @@ front s card size = first (eqb (file_refusal s).number 0) refl
     third : (file_refusal s).number ≡ 0 → count_in s < 200 → (q : Bool) → leb (size_of (count_in s + 1)) size ≡ q → Front s card size
     third o h true t =
         let k = leb-true (size_of (count_in s + 1)) size t in
-        roomy (number (or-on (file_refusal s) _ o ∙ more-none (count_in s) size h k)) (record { zero-file = o; few = h; room = k })
+        roomy (number (or_on (file_refusal s) _ o ∙ more_none (count_in s) size h k)) (record { zero_file = o; few = h; room = k })
     third o h false t =
         let k = leb-false (size_of (count_in s + 1)) size t in
-        let e = or-on (file_refusal s) (more_refusal (count_in s) size) o ∙ more-small (count_in s) size h k in
+        let e = or_on (file_refusal s) (more_refusal (count_in s) size) o ∙ more_small (count_in s) size h k in
         refused (λ z. absurd (omega (arith, number e))) (add_small s card size o h k ∙ sym e)
 
     second : (file_refusal s).number ≡ 0 → (q : Bool) → ltb (count_in s) 200 ≡ q → Front s card size
     second o true t = third o (ltb-true (count_in s) 200 t) (leb (size_of (count_in s + 1)) size) refl
     second o false t =
         let h = ltb-false (count_in s) 200 t in
-        let e = or-on (file_refusal s) (more_refusal (count_in s) size) o ∙ more-many (count_in s) size h in
-        refused (λ z. absurd (omega (arith, number e))) (add-many s card size o h ∙ sym e)
+        let e = or_on (file_refusal s) (more_refusal (count_in s) size) o ∙ more_many (count_in s) size h in
+        refused (λ z. absurd (omega (arith, number e))) (add_many s card size o h ∙ sym e)
 
     first : (q : Bool) → eqb (file_refusal s).number 0 ≡ q → Front s card size
     first true t = second (eqb-true (file_refusal s).number 0 t) (ltb (count_in s) 200) refl
     first false t =
         let h = eqb-false (file_refusal s).number 0 t in
         let e = or_stop (file_refusal s) (more_refusal (count_in s) size) h in
-        refused (λ z. h (sym (number e) ∙ z)) (add-file s card size h ∙ sym e)
+        refused (λ z. h (sym (number e) ∙ z)) (add_file s card size h ∙ sym e)
 
 pub front_refused : (s card : List ℕ) (size : ℕ) → ((front_refusal s size).number ≡ 0 → ⊥) → add_refusal s card size ≡ front_refusal s size
 front_refused s card size h = go (front s card size)
@@ -126,11 +126,11 @@ front_roomy s size h = go (front s [] size)
 
 -- an addition that is not refused
 pub record Added (s card : List ℕ) (size : ℕ) : Type 0 where
-  pub zero-file : (file_refusal s).number ≡ 0
+  pub zero_file : (file_refusal s).number ≡ 0
   pub file : Opened s
   pub few : count_in s < 200
   pub room : size_of (count_in s + 1) ≤ size
-  pub card-is : is_card card ≡ true
+  pub card_is : is_card card ≡ true
 
 pub added : (s card : List ℕ) (size : ℕ) → (add_refusal s card size).number ≡ 0 → Added s card size
 added s card size z = first (eqb (file_refusal s).number 0) refl
@@ -139,8 +139,8 @@ added s card size z = first (eqb (file_refusal s).number 0) refl
     number e = sym (ap (λ (r : Refusal). r.number) e) ∙ z
 
     fourth : (file_refusal s).number ≡ 0 → count_in s < 200 → size_of (count_in s + 1) ≤ size → (q : Bool) → is_card card ≡ q → Added s card size
-    fourth o h k true t = record { zero-file = o; file = opened s o; few = h; room = k; card-is = t }
-    fourth o h k false t = absurd (omega (arith, number (add-card s card size o h k t)))
+    fourth o h k true t = record { zero_file = o; file = opened s o; few = h; room = k; card_is = t }
+    fourth o h k false t = absurd (omega (arith, number (add_card s card size o h k t)))
 
     third : (file_refusal s).number ≡ 0 → count_in s < 200 → (q : Bool) → leb (size_of (count_in s + 1)) size ≡ q → Added s card size
     third o h true t = fourth o h (leb-true (size_of (count_in s + 1)) size t) (is_card card) refl
@@ -148,13 +148,13 @@ added s card size z = first (eqb (file_refusal s).number 0) refl
 
     second : (file_refusal s).number ≡ 0 → (q : Bool) → ltb (count_in s) 200 ≡ q → Added s card size
     second o true t = third o (ltb-true (count_in s) 200 t) (leb (size_of (count_in s + 1)) size) refl
-    second o false t = absurd (omega (arith, number (add-many s card size o (ltb-false (count_in s) 200 t))))
+    second o false t = absurd (omega (arith, number (add_many s card size o (ltb-false (count_in s) 200 t))))
 
     first : (q : Bool) → eqb (file_refusal s).number 0 ≡ q → Added s card size
     first true t = second (eqb-true (file_refusal s).number 0 t) (ltb (count_in s) 200) refl
     first false t =
         let h = eqb-false (file_refusal s).number 0 t in
-        absurd (h (number (add-file s card size h)))
+        absurd (h (number (add_file s card size h)))
 
 -- ---- the new file
 pub more_cards : (xs : List (List ℕ)) (x : List ℕ) → Cards xs → is_card x ≡ true → Cards (xs ++ (x ∷ []))
@@ -172,27 +172,27 @@ module _ (s card room : List ℕ) where
   unfolding joined images_in
   grown-flat = flat_append (images_in s) (card ∷ []) ∙ ap₂ (λ (a b : List ℕ). a ++ b) (flat_pieces 256 (count_in s) s) (append-nil card)
 
-  pub grown-file : (n : ℕ) (index : List ℕ) → n ≡ count_in s → index ≡ index_bytes grown → (take (n * 256) s ++ card) ++ (index ++ trailer (n + 1) index) ≡ file_of grown
+  pub grown_file : (n : ℕ) (index : List ℕ) → n ≡ count_in s → index ≡ index_bytes grown → (take (n * 256) s ++ card) ++ (index ++ trailer (n + 1) index) ≡ file_of grown
   unfolding file_of
-  grown-file n index e f =
+  grown_file n index e f =
       ap (λ (k : ℕ). (take (k * 256) s ++ card) ++ (index ++ trailer (k + 1) index)) e
       ∙ ap₂ (λ (a : List ℕ) (k : ℕ). a ++ (index ++ trailer k index)) (sym grown-flat) (sym length-grown)
       ∙ ap (λ (i : List ℕ). flat grown ++ (i ++ trailer (length grown) i)) f
 
-  pub refused-add : (x : Refusal) → x ≡ add_refusal s card (length room) → (x.number ≡ 0 → ⊥) → (answered x 0 ≡ add_answer s card room) × (room ≡ add_room s card room)
+  pub refused_add : (x : Refusal) → x ≡ add_refusal s card (length room) → (x.number ≡ 0 → ⊥) → (answered x 0 ≡ add_answer s card room) × (room ≡ add_room s card room)
   unfolding add_answer add_room
-  refused-add x e h = (
-    answered-any x h 0 (size_of (count_in s + 1)) ∙ ap (λ (y : Refusal). answered y (size_of (count_in s + 1))) e,
-    room-kept x h (file_of grown) room ∙ ap (λ (y : Refusal). room_after y (file_of grown) room) e,
+  refused_add x e h = (
+    answered_any x h 0 (size_of (count_in s + 1)) ∙ ap (λ (y : Refusal). answered y (size_of (count_in s + 1))) e,
+    room_kept x h (file_of grown) room ∙ ap (λ (y : Refusal). room_after y (file_of grown) room) e,
   )
 
-  pub written-add : (x : Refusal) (n : ℕ) (index : List ℕ) → x ≡ add_refusal s card (length room) → x.number ≡ 0 → n ≡ count_in s → index ≡ index_bytes grown
+  pub written_add : (x : Refusal) (n : ℕ) (index : List ℕ) → x ≡ add_refusal s card (length room) → x.number ≡ 0 → n ≡ count_in s → index ≡ index_bytes grown
       → (answered x ((n + 1) * 270 + 8) ≡ add_answer s card room) × (sets room 0 ((take (n * 256) s ++ card) ++ (index ++ trailer (n + 1) index)) ≡ add_room s card room)
   unfolding add_answer add_room
-  written-add x n index e z f g =
+  written_add x n index e z f g =
       let a = added s card (length room) (sym (ap (λ (r : Refusal). r.number) e) ∙ z) in
       let fits : length (file_of grown) ≤ length room =
-      omega (arith, length_file grown (more_cards (images_in s) card a.file.cards a.card-is), length-grown, a.room) in (
+      omega (arith, length_file grown (more_cards (images_in s) card a.file.cards a.card_is), length-grown, a.room) in (
         ap₂ (λ (y : Refusal) (k : ℕ). answered y ((k + 1) * 270 + 8)) e f,
-        ap (sets room 0) (grown-file n index f g) ∙ room-written x z (file_of grown) room fits ∙ ap (λ (y : Refusal). room_after y (file_of grown) room) e,
+        ap (sets room 0) (grown_file n index f g) ∙ room_written x z (file_of grown) room fits ∙ ap (λ (y : Refusal). room_after y (file_of grown) room) e,
       )

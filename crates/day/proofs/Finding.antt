@@ -25,9 +25,9 @@ use Rattle.day.specs.Files.{Cards, no-cards, one-card, index_bytes, count_in, im
 use Rattle.day.specs.Calls.{answered, past_refusal, number_formed, has_number, first_with, entries_in, position_in, find_refusal, find_answer}
 use Rattle.day.proofs.Padded.{entry_stored}
 use Rattle.day.proofs.Searches.{halved_rank, told_rank}
-use Rattle.day.proofs.Entries.{entries-are, entries_sorted, length_index_bytes}
-use Rattle.day.proofs.Opens.{or_stop, or-on, gate-on, gate-off, opened}
-use Rattle.day.proofs.Sizes.{length_images, answered-any}
+use Rattle.day.proofs.Entries.{entries_are, entries_sorted, length_index_bytes}
+use Rattle.day.proofs.Opens.{or_stop, or_on, gate_on, gate_off, opened}
+use Rattle.day.proofs.Sizes.{length_images, answered_any}
 use Rattle.day.proofs.Numbers.{card_number, padded_same}
 use Rattle.day.proofs.Lookups.{lookup_first}
 
@@ -45,21 +45,21 @@ module _ (v : List ℕ) where
   unfolding number_formed
   number_short h = rw (lt-leb 6 (length v) h)
 
-  pub number-long : 6 ≤ length v → 12 < length v → number_formed v ≡ false
+  pub number_long : 6 ≤ length v → 12 < length v → number_formed v ≡ false
   unfolding number_formed
-  number-long h k = rw (le-leb 6 (length v) h, lt-leb (length v) 12 k)
+  number_long h k = rw (le-leb 6 (length v) h, lt-leb (length v) 12 k)
 
-  pub number-odd : 6 ≤ length v → length v ≤ 12 → leading is_digit v < length v → number_formed v ≡ false
+  pub number_odd : 6 ≤ length v → length v ≤ 12 → leading is_digit v < length v → number_formed v ≡ false
   unfolding number_formed
-  number-odd h k d = rw (le-leb 6 (length v) h, le-leb (length v) 12 k, ne_eqb (leading is_digit v) (length v) (λ e. omega arith))
+  number_odd h k d = rw (le-leb 6 (length v) h, le-leb (length v) 12 k, ne_eqb (leading is_digit v) (length v) (λ e. omega arith))
 
-  pub number-right : 6 ≤ length v → length v ≤ 12 → leading is_digit v ≡ length v → number_formed v ≡ true
+  pub number_right : 6 ≤ length v → length v ≤ 12 → leading is_digit v ≡ length v → number_formed v ≡ true
   unfolding number_formed
-  number-right h k d = rw (le-leb 6 (length v) h, le-leb (length v) 12 k, eq-eqb (leading is_digit v) (length v) d)
+  number_right h k d = rw (le-leb 6 (length v) h, le-leb (length v) 12 k, eq-eqb (leading is_digit v) (length v) d)
 
-  pub number-most : number_formed v ≡ true → length v ≤ 12
+  pub number_most : number_formed v ≡ true → length v ≤ 12
   unfolding number_formed
-  number-most t =
+  number_most t =
       let a = leb 6 (length v) in
       let b = leb (length v) 12 in
       let d = eqb (leading is_digit v) (length v) in
@@ -108,11 +108,11 @@ module _ (key : List ℕ) (es : List (List ℕ)) (n r : ℕ) (m : length es ≡ 
 
 -- the parts of an entry, as they are lent
 module _ (l : List ℕ) (n r : ℕ) (h : r < n) where
-  pub front-lent : take (r * 14 + 12 - r * 14) (drop (r * 14) l) ≡ take 12 (get_or (pieces 14 n l) r [])
-  front-lent = rw (add-sub_cancel_left, piece_at 14 n l r h) (sym (take-take 12 14 (drop (r * 14) l) (omega arith)))
+  pub front_lent : take (r * 14 + 12 - r * 14) (drop (r * 14) l) ≡ take 12 (get_or (pieces 14 n l) r [])
+  front_lent = rw (add-sub_cancel_left, piece_at 14 n l r h) (sym (take-take 12 14 (drop (r * 14) l) (omega arith)))
 
-  pub position-lent : get_or l (r * 14 + 12) 0 * 256 + get_or l (r * 14 + 12 + 1) 0 ≡ position_of (get_or (pieces 14 n l) r [])
-  position-lent =
+  pub position_lent : get_or l (r * 14 + 12) 0 * 256 + get_or l (r * 14 + 12 + 1) 0 ≡ position_of (get_or (pieces 14 n l) r [])
+  position_lent =
       let f : r * 14 + 12 + 1 ≡ r * 14 + 13 = omega arith in
       let high : get_or (take 14 (drop (r * 14) l)) 12 0 ≡ get_or l (r * 14 + 12) 0 = get_or-take 14 (drop (r * 14) l) 12 0 (omega arith) ∙ get_or-drop (r * 14) l 12 0 in
       let low : get_or (take 14 (drop (r * 14) l)) 13 0 ≡ get_or l (r * 14 + 13) 0 = get_or-take 14 (drop (r * 14) l) 13 0 (omega arith) ∙ get_or-drop (r * 14) l 13 0 in
@@ -133,30 +133,30 @@ module _ (s q : List ℕ) where
   abbrev numberTest : Refusal
   numberTest = gate (number_formed q && ltb (first_with q (images_in s)) (count_in s)) (refuse 44 0 0) none
 
-  pub find-file : ((file_refusal s).number ≡ 0 → ⊥) → find_refusal s q ≡ file_refusal s
+  pub find_file : ((file_refusal s).number ≡ 0 → ⊥) → find_refusal s q ≡ file_refusal s
   unfolding find_refusal
-  find-file h = or_stop (file_refusal s) numberTest h
+  find_file h = or_stop (file_refusal s) numberTest h
 
   module _ (z : (file_refusal s).number ≡ 0) where
     past : find_refusal s q ≡ numberTest
     unfolding find_refusal
-    past = or-on (file_refusal s) numberTest z
+    past = or_on (file_refusal s) numberTest z
 
-    pub find-odd : number_formed q ≡ false → find_refusal s q ≡ refuse 44 0 0
-    find-odd t = past ∙ gate-off _ _ (rw t)
+    pub find_odd : number_formed q ≡ false → find_refusal s q ≡ refuse 44 0 0
+    find_odd t = past ∙ gate_off _ _ (rw t)
 
     pub find_none : number_formed q ≡ true → count_in s ≤ first_with q (images_in s) → find_refusal s q ≡ refuse 44 0 0
-    find_none t h = past ∙ gate-off _ _ (rw (t, le-ltb (first_with q (images_in s)) (count_in s) h))
+    find_none t h = past ∙ gate_off _ _ (rw (t, le-ltb (first_with q (images_in s)) (count_in s) h))
 
-    pub find-there : number_formed q ≡ true → first_with q (images_in s) < count_in s → find_refusal s q ≡ none
-    find-there t h = past ∙ gate-on _ _ (rw (t, lt-ltb (first_with q (images_in s)) (count_in s) h))
+    pub find_there : number_formed q ≡ true → first_with q (images_in s) < count_in s → find_refusal s q ≡ none
+    find_there t h = past ∙ gate_on _ _ (rw (t, lt-ltb (first_with q (images_in s)) (count_in s) h))
 
   -- the search of the index tells the first card of the number: the numbers of cards are told by their padded forms
   pub first_found : (file_refusal s).number ≡ 0 → number_formed q ≡ true → (n : ℕ) (room : List ℕ) → n ≡ count_in s → take (n * 14) room ≡ index_bytes (images_in s)
       → lookup (entry q 0) (pieces 14 n room) ≡ first_with q (images_in s)
   unfolding first_with
   first_found z t n room e h =
-      ap (lookup (entry q 0)) (entries-are (images_in s) room n (length_images s ∙ sym e) h)
+      ap (lookup (entry q 0)) (entries_are (images_in s) room n (length_images s ∙ sym e) h)
       ∙ lookup_first (map number_of (images_in s)) q
       ∙ sym (leading_map (λ v. not (same_list (padded v) (padded q))) number_of (images_in s))
       ∙ leading_alike (λ x. not (same_list (padded (number_of x)) (padded q))) (λ x. not (has_number q x)) [] (images_in s)
@@ -169,8 +169,8 @@ module _ (s q : List ℕ) where
         let o = opened s z in
         ap length (i ∙ o.index) ∙ length_index_bytes (images_in s) ∙ ap (λ (k : ℕ). k * 14) (length_images s)
 
-    pub index-count : length index / 14 ≡ count_in s
-    index-count = omega (arith, index-size)
+    pub index_count : length index / 14 ≡ count_in s
+    index_count = omega (arith, index-size)
 
     position_first : number_formed q ≡ true → position_in index q ≡ first_with q (images_in s)
     unfolding position_in
@@ -179,16 +179,16 @@ module _ (s q : List ℕ) where
         let key = entry q 0 in
         let es = entries_in index in
         let h : take (m * 14) index ≡ index_bytes (images_in s) = take_all (m * 14) index (omega (arith, index-size)) ∙ i ∙ (opened s z).index in
-        let sorted = entries_sorted (images_in s) index m (length_images s ∙ sym index-count) h in
-        rw t (told_rank key es (halved m key es 0 m) (halved_rank key es m sorted (sym (length_pieces 14 m index))) ∙ first_found z t m index index-count h)
+        let sorted = entries_sorted (images_in s) index m (length_images s ∙ sym index_count) h in
+        rw t (told_rank key es (halved m key es 0 m) (halved_rank key es m sorted (sym (length_pieces 14 m index))) ∙ first_found z t m index index_count h)
 
     position-odd : number_formed q ≡ false → position_in index q ≡ count_in s
     unfolding position_in
-    position-odd t = rw t index-count
+    position-odd t = rw t index_count
 
-    pub find-told : (n p : ℕ) (x : Refusal) → n ≡ count_in s → p ≡ position_in index q → x ≡ past_refusal p n → answered x p ≡ find_answer s q
+    pub find_told : (n p : ℕ) (x : Refusal) → n ≡ count_in s → p ≡ position_in index q → x ≡ past_refusal p n → answered x p ≡ find_answer s q
     unfolding find_answer past_refusal
-    find-told n p x e f g = go (number_formed q) refl
+    find_told n p x e f g = go (number_formed q) refl
       where
         go : (b : Bool) → number_formed q ≡ b → answered x p ≡ answered (find_refusal s q) (first_with q (images_in s))
         go true t =
@@ -196,20 +196,20 @@ module _ (s q : List ℕ) where
             ap₂ answered (g ∙ ap₂ (λ (a b : ℕ). gate (ltb a b) (refuse 44 0 0) none) w e ∙ sym (past z ∙ rw t)) w
         go false t =
             let w = f ∙ position-odd t in
-            let y : x ≡ refuse 44 0 0 = g ∙ gate-off _ _ (le-ltb p n (omega arith)) in
-            ap (λ (r : Refusal). answered r p) (y ∙ sym (find-odd z t)) ∙ answered-any (find_refusal s q) (λ u. let v = ap (λ (r : Refusal). r.number) (find-odd z t) in absurd (omega arith)) p (first_with q (images_in s))
+            let y : x ≡ refuse 44 0 0 = g ∙ gate_off _ _ (le-ltb p n (omega arith)) in
+            ap (λ (r : Refusal). answered r p) (y ∙ sym (find_odd z t)) ∙ answered_any (find_refusal s q) (λ u. let v = ap (λ (r : Refusal). r.number) (find_odd z t) in absurd (omega arith)) p (first_with q (images_in s))
 
-  pub refused-find : (x : Refusal) → x ≡ find_refusal s q → (x.number ≡ 0 → ⊥) → answered x 0 ≡ find_answer s q
+  pub refused_find : (x : Refusal) → x ≡ find_refusal s q → (x.number ≡ 0 → ⊥) → answered x 0 ≡ find_answer s q
   unfolding find_answer
-  refused-find x e h = answered-any x h 0 (first_with q (images_in s)) ∙ ap (λ (y : Refusal). answered y (first_with q (images_in s))) e
+  refused_find x e h = answered_any x h 0 (first_with q (images_in s)) ∙ ap (λ (y : Refusal). answered y (first_with q (images_in s))) e
 
-  pub told-find : (x : Refusal) (n : ℕ) → x ≡ find_refusal s q → n ≡ first_with q (images_in s) → answered x n ≡ find_answer s q
+  pub told_find : (x : Refusal) (n : ℕ) → x ≡ find_refusal s q → n ≡ first_with q (images_in s) → answered x n ≡ find_answer s q
   unfolding find_answer
-  told-find x n e f = ap₂ answered e f
+  told_find x n e f = ap₂ answered e f
 
-  pub found-there : (find_refusal s q).number ≡ 0 → first_with q (images_in s) < count_in s
+  pub found_there : (find_refusal s q).number ≡ 0 → first_with q (images_in s) < count_in s
   unfolding find_refusal
-  found-there z =
+  found_there z =
       let t = (gate_in (number_formed q && ltb (first_with q (images_in s)) (count_in s)) _ _ (omega arith) (neither _ _ z).second).0 in
       ltb-true (first_with q (images_in s)) (count_in s) (and_right (number_formed q) (ltb (first_with q (images_in s)) (count_in s)) t)
 
@@ -218,4 +218,4 @@ module _ (s q : List ℕ) where
     where
       go : Dec (count_in s ≤ first_with q (images_in s)) → count_in s ≤ first_with q (images_in s)
       go (yes l) = l
-      go (no l) = let n = ap (λ (x : Refusal). x.number) (find-there z t (omega arith)) in absurd (omega arith)
+      go (no l) = let n = ap (λ (x : Refusal). x.number) (find_there z t (omega arith)) in absurd (omega arith)

@@ -22,24 +22,24 @@ module _ (s : List ℕ) where
   unfolding fits
   too_many h k = rw (le-leb 8 (length s) h, lt-leb (count_in s) 200 k)
 
-  pub other-size : 8 ≤ length s → count_in s ≤ 200 → (length s ≡ size_of (count_in s) → ⊥) → fits s ≡ false
+  pub other_size : 8 ≤ length s → count_in s ≤ 200 → (length s ≡ size_of (count_in s) → ⊥) → fits s ≡ false
   unfolding fits
-  other-size h k n = rw (le-leb 8 (length s) h, le-leb (count_in s) 200 k, ne_eqb (length s) (size_of (count_in s)) n)
+  other_size h k n = rw (le-leb 8 (length s) h, le-leb (count_in s) 200 k, ne_eqb (length s) (size_of (count_in s)) n)
 
-  pub by-trailer : 8 ≤ length s → count_in s ≤ 200 → length s ≡ size_of (count_in s)
+  pub by_trailer : 8 ≤ length s → count_in s ≤ 200 → length s ≡ size_of (count_in s)
       → fits s ≡ same_list (drop (count_in s * 270) s) (trailer (count_in s) (index_in s))
   unfolding fits
-  by-trailer h k n = rw (le-leb 8 (length s) h, le-leb (count_in s) 200 k, eq-eqb (length s) (size_of (count_in s)) n)
+  by_trailer h k n = rw (le-leb 8 (length s) h, le-leb (count_in s) 200 k, eq-eqb (length s) (size_of (count_in s)) n)
 
   -- the same, of the parts as they are lent
-  pub by-trailer-lent : (n : ℕ) (t : List ℕ) → n ≡ count_in s → t ≡ trailer n (take (n * 270 - n * 256) (drop (n * 256) s)) → 8 ≤ length s → n ≤ 200 → length s ≡ n * 270 + 8
+  pub by_trailer_lent : (n : ℕ) (t : List ℕ) → n ≡ count_in s → t ≡ trailer n (take (n * 270 - n * 256) (drop (n * 256) s)) → 8 ≤ length s → n ≤ 200 → length s ≡ n * 270 + 8
       → same_list (take (length s - n * 270) (drop (n * 270) s)) t ≡ fits s
-  by-trailer-lent n t e f h k m =
+  by_trailer_lent n t e f h k m =
       let d : n * 270 - n * 256 ≡ n * 14 = omega arith in
       ap (λ (x : List ℕ). same_list x t) (to_end s (n * 270))
       ∙ ap (same_list (drop (n * 270) s)) (f ∙ ap (λ (x : ℕ). trailer n (take x (drop (n * 256) s))) d)
       ∙ ap (λ (x : ℕ). same_list (drop (x * 270) s) (trailer x (take (x * 14) (drop (x * 256) s)))) e
-      ∙ sym (by-trailer h (omega arith) (omega arith))
+      ∙ sym (by_trailer h (omega arith) (omega arith))
 
 -- what fits
 pub record Framed (s : List ℕ) : Type 0 where
@@ -66,18 +66,18 @@ framed s t =
 
 -- what is closed
 module _ (n : ℕ) (index room : List ℕ) where
-  pub closed-many : 200 < n → room ≡ closed n index room
+  pub closed_many : 200 < n → room ≡ closed n index room
   unfolding closed
-  closed-many h = rw (lt-leb n 200 h)
+  closed_many h = rw (lt-leb n 200 h)
 
-  pub closed-odd : n ≤ 200 → (length index ≡ n * 14 → ⊥) → room ≡ closed n index room
+  pub closed_odd : n ≤ 200 → (length index ≡ n * 14 → ⊥) → room ≡ closed n index room
   unfolding closed
-  closed-odd h k = rw (le-leb n 200 h, ne_eqb (length index) (n * 14) k)
+  closed_odd h k = rw (le-leb n 200 h, ne_eqb (length index) (n * 14) k)
 
-  pub closed-small : n ≤ 200 → length index ≡ n * 14 → length room < n * 270 + 8 → room ≡ closed n index room
+  pub closed_small : n ≤ 200 → length index ≡ n * 14 → length room < n * 270 + 8 → room ≡ closed n index room
   unfolding closed
-  closed-small h k l = rw (le-leb n 200 h, eq-eqb (length index) (n * 14) k, lt-leb (n * 270 + 8) (length room) l)
+  closed_small h k l = rw (le-leb n 200 h, eq-eqb (length index) (n * 14) k, lt-leb (n * 270 + 8) (length room) l)
 
-  pub closed-right : n ≤ 200 → length index ≡ n * 14 → n * 270 + 8 ≤ length room → closed n index room ≡ sets room (n * 256) (index ++ trailer n index)
+  pub closed_right : n ≤ 200 → length index ≡ n * 14 → n * 270 + 8 ≤ length room → closed n index room ≡ sets room (n * 256) (index ++ trailer n index)
   unfolding closed
-  closed-right h k l = rw (le-leb n 200 h, eq-eqb (length index) (n * 14) k, le-leb (n * 270 + 8) (length room) l)
+  closed_right h k l = rw (le-leb n 200 h, eq-eqb (length index) (n * 14) k, le-leb (n * 270 + 8) (length room) l)

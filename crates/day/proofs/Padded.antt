@@ -31,15 +31,15 @@ module _ (o : Object) (i : ℕ) (long : length o.bytes ≡ 28) (most : o.length 
   unfolding value_of
   value-size = length-take-le o.length (o.bytes ++ replicate 227 0) (simp length-append (omega arith))
 
-  pub padded-byte : i < o.length → get_or (padded (value_of o)) i 0 ≡ get_or o.bytes i 0
+  pub padded_byte : i < o.length → get_or (padded (value_of o)) i 0 ≡ get_or o.bytes i 0
   unfolding padded value_of
-  padded-byte l =
+  padded_byte l =
       get_or-take 12 (value_of o ++ replicate 12 0x20) i 0 h ∙ get_or-append (value_of o) (replicate 12 0x20) 0 i (omega (arith, value-size))
       ∙ get_or-take o.length (o.bytes ++ replicate 227 0) i 0 l ∙ get_or-append o.bytes (replicate 227 0) 0 i (omega arith)
 
-  pub padded-blank : o.length ≤ i → get_or (padded (value_of o)) i 0 ≡ 0x20
+  pub padded_blank : o.length ≤ i → get_or (padded (value_of o)) i 0 ≡ 0x20
   unfolding padded
-  padded-blank l =
+  padded_blank l =
       let e : i ≡ length (value_of o) + (i - o.length) = omega (arith, value-size) in
       let f : i - o.length < 12 = omega arith in
       get_or-take 12 (value_of o ++ replicate 12 0x20) i 0 h

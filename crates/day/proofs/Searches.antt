@@ -41,8 +41,8 @@ bracket_start xs e n h = record {
 }
 
 module _ {xs : List (List ℕ)} {e : List ℕ} {low high : ℕ} (s : Sorted xs) (b : Bracket xs e low high) (m : ℕ) (from : low ≤ m) (to : m < high) where
-  pub bracket-up : below (get_or xs m []) e ≡ true → Bracket xs e (m + 1) high
-  bracket-up t = record {
+  pub bracket_up : below (get_or xs m []) e ≡ true → Bracket xs e (m + 1) high
+  bracket_up t = record {
     ordered = omega arith;
     most = b.most;
     passed = λ k l. go k (omega arith) (below (get_or xs k []) e) refl;
@@ -54,8 +54,8 @@ module _ {xs : List (List ℕ)} {e : List ℕ} {low high : ℕ} (s : Sorted xs) 
       go k l false u =
           absurd (true_false t (below_through e (get_or xs k []) (get_or xs m []) u (sorted_at xs s k m l (lt_of_lt_of_le to b.most))))
 
-  pub bracket-down : below (get_or xs m []) e ≡ false → Bracket xs e low m
-  bracket-down t = record {
+  pub bracket_down : below (get_or xs m []) e ≡ false → Bracket xs e low m
+  bracket_down t = record {
     ordered = from;
     most = omega (arith, b.most);
     passed = b.passed;
@@ -111,8 +111,8 @@ halved_down key es (suc n) low high l h t = down key es n low high l t ∙ sym (
 halved_from : (key : List ℕ) (es : List (List ℕ)) → Sorted es → (n low high : ℕ) → Bracket es key low high → high - low ≤ n → halved n key es low high ≡ rank_of key es
 halved_from key es s zero low high b h = halved_end key es 0 low high (omega arith) ∙ bracket_end es key low high b (omega arith)
 halved_from key es s (suc n) low high b h =
-    go (ltb low high) refl (λ l t. halved_from key es s n (halfway low high + 1) high (bracket-up s b (halfway low high) (omega arith) (omega arith) t) (omega arith))
-    (λ l t. halved_from key es s n low (halfway low high) (bracket-down s b (halfway low high) (omega arith) (omega arith) t) (omega arith))
+    go (ltb low high) refl (λ l t. halved_from key es s n (halfway low high + 1) high (bracket_up s b (halfway low high) (omega arith) (omega arith) t) (omega arith))
+    (λ l t. halved_from key es s n low (halfway low high) (bracket_down s b (halfway low high) (omega arith) (omega arith) t) (omega arith))
   where
     turn : low < high → (q : Bool) → below (get_or es (halfway low high) []) key ≡ q → (below (get_or es (halfway low high) []) key ≡ true → halved n key es (halfway low high + 1) high ≡ rank_of key es)
         → (below (get_or es (halfway low high) []) key ≡ false → halved n key es low (halfway low high) ≡ rank_of key es) → halved (suc n) key es low high ≡ rank_of key es

@@ -58,16 +58,16 @@ length_file xs c =
 -- ---- answers
 module _ (x : Refusal) where
   -- with a refusal the value does not matter
-  pub answered-any : (x.number ≡ 0 → ⊥) → (m n : ℕ) → answered x m ≡ answered x n
+  pub answered_any : (x.number ≡ 0 → ⊥) → (m n : ℕ) → answered x m ≡ answered x n
   unfolding answered
-  answered-any h m n = rw (ne_eqb x.number 0 h)
+  answered_any h m n = rw (ne_eqb x.number 0 h)
 
-  pub room-kept : (x.number ≡ 0 → ⊥) → (new room : List ℕ) → room ≡ room_after x new room
+  pub room_kept : (x.number ≡ 0 → ⊥) → (new room : List ℕ) → room ≡ room_after x new room
   unfolding room_after
-  room-kept h new room = rw (ne_eqb x.number 0 h)
+  room_kept h new room = rw (ne_eqb x.number 0 h)
 
-  pub room-written : x.number ≡ 0 → (new room : List ℕ) → length new ≤ length room → sets room 0 new ≡ room_after x new room
+  pub room_written : x.number ≡ 0 → (new room : List ℕ) → length new ≤ length room → sets room 0 new ≡ room_after x new room
   unfolding room_after
-  room-written h new room l =
+  room_written h new room l =
       let e : 0 + length new ≡ length new = omega arith in
       rw (eq-eqb x.number 0 h) (sets-eq new room 0 (omega arith) ∙ ap (λ (k : ℕ). new ++ drop k room) e)

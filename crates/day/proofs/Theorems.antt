@@ -21,13 +21,13 @@ use Rattle.day.specs.Files.{Cards, DayFile, file_of, trailer, index_bytes, size_
 use Rattle.day.specs.Calls.{answered, room_after, number_formed, has_number, first_with, find_refusal, find_answer, add_refusal, add_answer, add_room, laid_images, build_refusal, build_answer, build_room}
 use Rattle.day.proofs.Entries.{length_index_bytes, index_sorted}
 use Rattle.day.proofs.Turns.{all_cards}
-use Rattle.day.proofs.Frames.{by-trailer}
-use Rattle.day.proofs.Opens.{opened, same_self, file-opens}
+use Rattle.day.proofs.Frames.{by_trailer}
+use Rattle.day.proofs.Opens.{opened, same_self, file_opens}
 use Rattle.ground.proofs.Lists.{same_equal}
 use Rattle.day.proofs.Sizes.{cards_sized, length_images, length_file}
 use Rattle.day.proofs.Adds.{Added, added, add_none, more_cards}
-use Rattle.day.proofs.Builds.{built, build-none}
-use Rattle.day.proofs.Finding.{find_none, found-there, told_none}
+use Rattle.day.proofs.Builds.{built, build_none}
+use Rattle.day.proofs.Finding.{find_none, found_there, told_none}
 use Rattle.day.proofs.Only.{one_order}
 use Rattle.day.specs.Promises.{Exactly, AddedAfresh, BuiltBack, times, entries_from, IsIndex, OneIndex, HasAt, Lowest, FindsFirst, FindsNone}
 
@@ -72,9 +72,9 @@ module _ (xs : List (List ℕ)) (c : Cards xs) where
   trailer-byte k =
       ap₂ (λ (l : List ℕ) (i : ℕ). get_or l (i + k) 0) in_two (sym front-size) ∙ get_or-append-add front (trailer n index) k 0
 
-  pub count-back : count_in (file_of xs) ≡ n
+  pub count_back : count_in (file_of xs) ≡ n
   unfolding trailer
-  count-back =
+  count_back =
       let s = length_file xs c in
       let a : length (file_of xs) - 4 ≡ n * 270 + 4 = omega arith in
       let b : length (file_of xs) - 3 ≡ n * 270 + 5 = omega arith in
@@ -82,31 +82,31 @@ module _ (xs : List (List ℕ)) (c : Cards xs) where
       let low : get_or (file_of xs) (length (file_of xs) - 3) 0 ≡ n % 256 = ap (λ (i : ℕ). get_or (file_of xs) i 0) b ∙ trailer-byte 5 in
       ap₂ (λ (x y : ℕ). x * 256 + y) high low ∙ omega arith
 
-  pub images-back : images_in (file_of xs) ≡ xs
+  pub images_back : images_in (file_of xs) ≡ xs
   unfolding images_in file_of
-  images-back = ap (λ (k : ℕ). pieces 256 k (file_of xs)) count-back ∙ pieces_flat 256 xs (index ++ trailer n index) (cards_sized xs c)
+  images_back = ap (λ (k : ℕ). pieces 256 k (file_of xs)) count_back ∙ pieces_flat 256 xs (index ++ trailer n index) (cards_sized xs c)
 
   index_back : index_in (file_of xs) ≡ index
   unfolding file_of
   index_back =
-      ap (λ (k : ℕ). take (k * 14) (drop (k * 256) (file_of xs))) count-back
+      ap (λ (k : ℕ). take (k * 14) (drop (k * 256) (file_of xs))) count_back
       ∙ ap (take (n * 14)) (drop_at (flat xs) (index ++ trailer n index) (n * 256) (length_flat 256 xs (cards_sized xs c)))
       ∙ take_at index (trailer n index) (n * 14) (length_index_bytes xs)
 
-  pub file-fits : n ≤ 200 → fits (file_of xs) ≡ true
-  file-fits h =
+  pub file_fits : n ≤ 200 → fits (file_of xs) ≡ true
+  file_fits h =
       let s = length_file xs c in
-      let k = count-back in
+      let k = count_back in
       let end : drop (count_in (file_of xs) * 270) (file_of xs) ≡ trailer n index =
       ap (λ (i : ℕ). drop (i * 270) (file_of xs)) k ∙ ap (drop (n * 270)) in_two ∙ drop_at front (trailer n index) (n * 270) front-size in
-      by-trailer (file_of xs) (omega arith) (omega arith) (omega arith)
+      by_trailer (file_of xs) (omega arith) (omega arith) (omega arith)
       ∙ ap₂ same_list end (ap₂ trailer k index_back)
       ∙ same_self (trailer n index)
 
-  pub file-of-cards : n ≤ 200 → file_refusal (file_of xs) ≡ none
-  file-of-cards h =
-      file-opens (file_of xs) (file-fits h) (ap (λ (x : Refusal). x.number) (ap (cards_refusal 0) images-back ∙ all_cards 0 xs c))
-      (ap₂ same_list index_back (ap index_bytes images-back) ∙ same_self index)
+  pub file_of_cards : n ≤ 200 → file_refusal (file_of xs) ≡ none
+  file_of_cards h =
+      file_opens (file_of xs) (file_fits h) (ap (λ (x : Refusal). x.number) (ap (cards_refusal 0) images_back ∙ all_cards 0 xs c))
+      (ap₂ same_list index_back (ap index_bytes images_back) ∙ same_self index)
 
 -- ---- some bytes are a day file exactly where no check refuses them
 pub day_file : (s : List ℕ) → (file_refusal s).number ≡ 0 → DayFile s
@@ -115,7 +115,7 @@ day_file s z =
     record { images = images_in s; cards = o.cards; most = omega (arith, length_images s, o.frame.most); drawn = file_is s z }
 
 pub not_refused : (s : List ℕ) → DayFile s → file_refusal s ≡ none
-not_refused s d = ap file_refusal (sym d.drawn) ∙ file-of-cards d.images d.cards d.most
+not_refused s d = ap file_refusal (sym d.drawn) ∙ file_of_cards d.images d.cards d.most
 
 -- two of the same images are one
 pub one_file : (s t : List ℕ) → DayFile s → DayFile t → images_in s ≡ images_in t → s ≡ t
@@ -132,7 +132,7 @@ module _ (s card room : List ℕ) (z : (add_refusal s card (length room)).number
   a = added s card (length room) z
 
   all-cards-are : Cards all
-  all-cards-are = more_cards (images_in s) card a.file.cards a.card-is
+  all-cards-are = more_cards (images_in s) card a.file.cards a.card_is
 
   all-count : length all ≡ count_in s + 1
   all-count = length-append (images_in s) (card ∷ []) ∙ ap (λ (k : ℕ). k + 1) (length_images s)
@@ -153,15 +153,15 @@ module _ (s card room : List ℕ) (z : (add_refusal s card (length room)).number
   build-refusal =
       let e = laid-size in
       let k = laid-count in
-      build-none (flat all) (length room) (omega arith) (ap (λ (x : Refusal). x.number) (ap (cards_refusal 0) laid-all ∙ all_cards 0 all all-cards-are))
+      build_none (flat all) (length room) (omega arith) (ap (λ (x : Refusal). x.number) (ap (cards_refusal 0) laid-all ∙ all_cards 0 all all-cards-are))
       (omega (arith, a.few)) (omega (arith, a.room))
 
   add-refusal : add_refusal s card (length room) ≡ none
-  add-refusal = add_none s card (length room) a.zero-file a.few a.room a.card-is
+  add-refusal = add_none s card (length room) a.zero_file a.few a.room a.card_is
 
-  pub added-afresh : (build_answer (flat all) room ≡ add_answer s card room) × (build_room (flat all) room ≡ add_room s card room)
+  pub added_afresh : (build_answer (flat all) room ≡ add_answer s card room) × (build_room (flat all) room ≡ add_room s card room)
   unfolding build_answer build_room add_answer add_room
-  added-afresh = (
+  added_afresh = (
     ap₂ (λ (x : Refusal) (k : ℕ). answered x (size_of k)) (build-refusal ∙ sym add-refusal) laid-count,
     ap₂ (λ (x : Refusal) (l : List (List ℕ)). room_after x (file_of l) room) (build-refusal ∙ sym add-refusal) laid-all,
   )
@@ -174,15 +174,15 @@ laid_length s = length_pieces 256 (length s / 256) s
 pub built_back : (s : List ℕ) (size : ℕ) → (build_refusal s size).number ≡ 0 → (file_refusal (file_of (laid_images s)) ≡ none) × (images_in (file_of (laid_images s)) ≡ laid_images s)
 built_back s size z =
     let b = built s size z in
-    (file-of-cards (laid_images s) b.cards (omega (arith, laid_length s, b.few)), images-back (laid_images s) b.cards)
+    (file_of_cards (laid_images s) b.cards (omega (arith, laid_length s, b.few)), images_back (laid_images s) b.cards)
 
 pub added_back : (s card : List ℕ) (size : ℕ) → (add_refusal s card size).number ≡ 0
     → (file_refusal (file_of (images_in s ++ (card ∷ []))) ≡ none) × (images_in (file_of (images_in s ++ (card ∷ []))) ≡ images_in s ++ (card ∷ []))
 added_back s card size z =
     let a = added s card size z in
-    let c = more_cards (images_in s) card a.file.cards a.card-is in
+    let c = more_cards (images_in s) card a.file.cards a.card_is in
     let n : length (images_in s ++ (card ∷ [])) ≡ count_in s + 1 = length-append (images_in s) (card ∷ []) ∙ ap (λ (k : ℕ). k + 1) (length_images s) in
-    (file-of-cards (images_in s ++ (card ∷ [])) c (omega (arith, a.few)), images-back (images_in s ++ (card ∷ [])) c)
+    (file_of_cards (images_in s ++ (card ∷ [])) c (omega (arith, a.few)), images_back (images_in s ++ (card ∷ [])) c)
 
 -- ---- what is found has the number, and nothing before it has; where nothing is found, nothing has
 module _ (file number : List ℕ) where
@@ -198,16 +198,16 @@ module _ (file number : List ℕ) where
   has_first h =
       (h, same_equal (number_of (get_or (images_in file) (first_with number (images_in file)) [])) number (not_false _ (leading_at (λ x. not (has_number number x)) [] (images_in file) h)))
 
-  pub finds-first : (find_refusal file number).number ≡ 0 → Lowest file number (find_answer file number).value
+  pub finds_first : (find_refusal file number).number ≡ 0 → Lowest file number (find_answer file number).value
   unfolding find_answer answered
-  finds-first z = rw (eq-eqb (find_refusal file number).number 0 z) (record { has = has_first there; none_before = no-earlier })
+  finds_first z = rw (eq-eqb (find_refusal file number).number 0 z) (record { has = has_first there; none_before = no-earlier })
     where
       there : first_with number (images_in file) < length (images_in file)
-      there = omega (arith, found-there file number z, length_images file)
+      there = omega (arith, found_there file number z, length_images file)
 
-  pub finds-none : (file_refusal file).number ≡ 0 → number_formed number ≡ true
+  pub finds_none : (file_refusal file).number ≡ 0 → number_formed number ≡ true
       → ((find_refusal file number).number ≡ 44 → (k : ℕ) → HasAt file number k → ⊥) × (((k : ℕ) → HasAt file number k → ⊥) → (find_refusal file number).number ≡ 44)
-  finds-none z t = (
+  finds_none z t = (
     λ e k h. no-earlier k (omega (arith, h.0, length_images file, told_none file number z t e)) h,
     λ none_has. go (dec_le (count_in file) (first_with number (images_in file))) none_has,
   )
@@ -241,7 +241,7 @@ pub exactly : Exactly
 exactly file = (day_file file, not_refused file)
 
 pub afresh : AddedAfresh
-afresh file card room z = added-afresh file card room z
+afresh file card room z = added_afresh file card room z
 
 pub back : BuiltBack
 back images size z = built_back images size z
@@ -252,7 +252,7 @@ one_index numbers =
     (own, λ es i. one_order es (index_of numbers) i.sorted (index_sorted numbers) (λ e. i.each e ∙ sym (index_times e numbers)))
 
 pub first : FindsFirst
-first file number z = finds-first file number z
+first file number z = finds_first file number z
 
 pub none_found : FindsNone
-none_found file number z t = finds-none file number z t
+none_found file number z t = finds_none file number z t

@@ -26,13 +26,13 @@ module _ (l : List ℕ) (n k : ℕ) (h : k < n) where
       let f : k * 256 + 256 ≡ (k + 1) * 256 = omega arith in
       rw (e, drop-drop, f, ← add-one k)
 
-  pub cards-pass : is_card (take 256 (drop (k * 256) l)) ≡ true → refusal_from l n k ≡ refusal_from l n (k + 1)
+  pub cards_pass : is_card (take 256 (drop (k * 256) l)) ≡ true → refusal_from l n k ≡ refusal_from l n (k + 1)
   unfolding gate
-  cards-pass t = split ∙ rw t
+  cards_pass t = split ∙ rw t
 
-  pub cards-stop : is_card (take 256 (drop (k * 256) l)) ≡ false → refusal_from l n k ≡ refuse 41 k 0
+  pub cards_stop : is_card (take 256 (drop (k * 256) l)) ≡ false → refusal_from l n k ≡ refuse 41 k 0
   unfolding gate
-  cards-stop t = split ∙ rw t
+  cards_stop t = split ∙ rw t
 
 pub cards_end : (l : List ℕ) (n k : ℕ) → n ≤ k → refusal_from l n k ≡ none
 unfolding cards_refusal pieces
@@ -56,15 +56,15 @@ module _ (l : List ℕ) (n k : ℕ) (room : List ℕ) where
       let f : k * 256 + 256 ≡ (k + 1) * 256 = omega arith in
       rw (e, drop-drop, f, ← add-one k)
 
-  pub room-pass : k < n → is_card image ≡ true → room_from l n k room ≡ room_from l n (k + 1) (room_with_entry (entry (number_of image) k) k room)
-  room-pass h t = split-room h ∙ rw t
+  pub room_pass : k < n → is_card image ≡ true → room_from l n k room ≡ room_from l n (k + 1) (room_with_entry (entry (number_of image) k) k room)
+  room_pass h t = split-room h ∙ rw t
 
-  pub room-stop : k < n → is_card image ≡ false → room_from l n k room ≡ room
-  room-stop h t = split-room h ∙ rw t
+  pub room_stop : k < n → is_card image ≡ false → room_from l n k room ≡ room
+  room_stop h t = split-room h ∙ rw t
 
-  pub room-end : n ≤ k → room_from l n k room ≡ room
+  pub room_end : n ≤ k → room_from l n k room ≡ room
   unfolding index_room pieces
-  room-end h = let e : n - k ≡ 0 = omega arith in rw e
+  room_end h = let e : n - k ≡ 0 = omega arith in rw e
 
 pub room_start : (l : List ℕ) (n : ℕ) (room : List ℕ) → room_from l n 0 room ≡ index_room 0 (pieces 256 n l) room
 room_start l n room = let e : n - 0 ≡ n = omega arith in let f : 0 * 256 ≡ 0 = omega arith in rw (e, f)

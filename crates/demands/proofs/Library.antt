@@ -57,10 +57,10 @@ accepted_content e s c a = ap (λ (r : Reading). r.content) (accepted_reads e s 
 demand1 : Demand1 library_reader library_writer
 unfolding answer_of buffer_after content_of
 demand1 = record {
-  read-says = λ e s n. says e s n (answer e s) refl;
-  read-empty = λ e s. empty e.number (answer e s);
-  write-says = λ e r b n l h. writing_says e r.number (content_of r) (length b) n (length-map r.objects value_of ∙ l.objects) (λ z. h (zero_is_none e r.number (content_of r) (length b) z));
-  write-leaves = λ e r b h. leaves e r b (eqb (record_refusal e r b).number 0) refl h;
+  read_says = λ e s n. says e s n (answer e s) refl;
+  read_empty = λ e s. empty e.number (answer e s);
+  write_says = λ e r b n l h. writing_says e r.number (content_of r) (length b) n (length-map r.objects value_of ∙ l.objects) (λ z. h (zero_is_none e r.number (content_of r) (length b) z));
+  write_leaves = λ e r b h. leaves e r b (eqb (record_refusal e r b).number 0) refl h;
 }
   where
     says : (e : Edition) (s : List ℕ) → LentEdition e → (a : Answer) → answer e s ≡ a → Refuses library_reader e s → ReadingSays e (answer_of e.number a).refusal

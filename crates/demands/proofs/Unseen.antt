@@ -88,7 +88,7 @@ pub go_unseen : GoUnseen
 unfolding drawing turned
 go_unseen = record {
   two_bytes = record { before = meets_S; after = meets_turned _ refl; changed = differ 34 0x41 0x42 _ _ refl refl (λ z. omega arith) };
-  free-byte = record { before = meets_S; after = meets_free (set (replicate 12 0) 11 0x01) _ refl refl; changed = differ 29 0x00 0x01 _ _ refl refl (λ z. omega arith) };
-  address-0 = record { before = meets_S; after = meets_ends _ _ refl refl; changed = differ 0 0x92 0xA2 _ _ refl refl (λ z. omega arith) };
+  free_byte = record { before = meets_S; after = meets_free (set (replicate 12 0) 11 0x01) _ refl refl; changed = differ 29 0x00 0x01 _ _ refl refl (λ z. omega arith) };
+  address_0 = record { before = meets_S; after = meets_ends _ _ refl refl; changed = differ 0 0x92 0xA2 _ _ refl refl (λ z. omega arith) };
   last_byte = record { before = meets_ends _ _ refl refl; after = meets_ends _ _ refl refl; changed = differ 255 0x00 0xFF _ _ refl refl (λ z. omega arith) };
 }

@@ -61,10 +61,10 @@ pub data WritingSays (e : Edition) (c : Content) : Refusal → Type 0 where
 
 -- 1: whatever is lent, a refusal says one of these; a refused reading hands out the empty record, a refused writing leaves the buffer
 pub record Demand1 (read : Reader) (write : Writer) : Type 0 where
-  pub read-says : (e : Edition) (s : List ℕ) → LentEdition e → Refuses read e s → ReadingSays e (read e s).refusal
-  pub read-empty : (e : Edition) (s : List ℕ) → Refuses read e s → (read e s).content ≡ empty_record
-  pub write-says : (e : Edition) (r : Record) (b : List ℕ) → LentEdition e → LentRecord r → ((write e r b).refusal ≡ none → ⊥) → WritingSays e (content_of r) (write e r b).refusal
-  pub write-leaves : (e : Edition) (r : Record) (b : List ℕ) → ((write e r b).refusal ≡ none → ⊥) → (write e r b).buffer ≡ b
+  pub read_says : (e : Edition) (s : List ℕ) → LentEdition e → Refuses read e s → ReadingSays e (read e s).refusal
+  pub read_empty : (e : Edition) (s : List ℕ) → Refuses read e s → (read e s).content ≡ empty_record
+  pub write_says : (e : Edition) (r : Record) (b : List ℕ) → LentEdition e → LentRecord r → ((write e r b).refusal ≡ none → ⊥) → WritingSays e (content_of r) (write e r b).refusal
+  pub write_leaves : (e : Edition) (r : Record) (b : List ℕ) → ((write e r b).refusal ≡ none → ⊥) → (write e r b).buffer ≡ b
 
 -- 2: accepted exactly where every rule is met; the record then holds what stands on the card, and the edition's number; written exactly where the edition allows it and the numbers are the same; the two round trips
 pub record Demand2 (read : Reader) (write : Writer) : Type 0 where

@@ -50,6 +50,6 @@ image_s82 = set image_s 0 0x82
 -- two bytes of that span: the letters of the fund name change places; and one byte of each excepted kind
 pub record GoUnseen : Type 0 where
   pub two_bytes : Unseen terminal image_s (set (set image_s 34 0x42) 35 0x41)
-  pub free-byte : Unseen terminal image_s (set image_s 29 0x01)
-  pub address-0 : Unseen terminal image_s (set image_s 0 0xA2)
+  pub free_byte : Unseen terminal image_s (set image_s 29 0x01)
+  pub address_0 : Unseen terminal image_s (set image_s 0 0xA2)
   pub last_byte : Unseen terminal image_s82 (set image_s82 255 0xFF)

@@ -1,7 +1,7 @@
 -- No second answer of the day file, stated as in `Determined`. Assumes nothing.
 use mathlib.Core.Path.{◌≡◌, sym, ◌∙◌}
 use Rattle.day_index.proofs.is_below.Reads as is_below
-use Rattle.day_index.proofs.put.Reads as put-entry
+use Rattle.day_index.proofs.put.Reads as put_entry
 use Rattle.day_cards.proofs.entry_of.Reads as entry_of
 use Rattle.day_cards.proofs.card_at.Reads as card_at
 use Rattle.day_told.proofs.count_in.Reads as count-in
@@ -37,7 +37,7 @@ use Rattle.kvk.proofs.kvk_day_build.Reads as kvk-day-build
 pub is_below_once : (κs : _) (a : _) (z y : _) (e f : _) → is_below.Post κs a z e → is_below.Post κs a y f → z ≡ y
 is_below_once κs a z y e f p q = p ∙ sym q
 
-pub put_entry_room_once : (κs : _) (a : _) (z y : _) (e f : _) → put-entry.Post κs a z e → put-entry.Post κs a y f → e.0.now ≡ f.0.now
+pub put_entry_room_once : (κs : _) (a : _) (z y : _) (e f : _) → put_entry.Post κs a z e → put_entry.Post κs a y f → e.0.now ≡ f.0.now
 put_entry_room_once κs a z y e f p q = p ∙ sym q
 
 pub entry_of_once : (κs : _) (a : _) (z y : _) (e f : _) → entry_of.Post κs a z e → entry_of.Post κs a y f → z ≡ y

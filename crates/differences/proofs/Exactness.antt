@@ -131,18 +131,18 @@ differences_exact c d vc vd bc bd = record {
   objects = along of_values object_tags c.values d.values;
   bytes = along of_bytes addresses (bytes_of c) (bytes_of d);
   whole = refl;
-  by-tag = exactly-along Tells of_values values_judged object_tags c.values d.values vc vd;
+  by_tag = exactly-along Tells of_values values_judged object_tags c.values d.values vc vd;
   by_address = exactly-along TellsByte of_bytes bytes_judged addresses (bytes_of c) (bytes_of d) bc bd;
 }
 
 pub exact_once : (c d : Content) (l : List Difference) → Exact c d l → l ≡ differences_of c d
 unfolding differences_of
 exact_once c d l x =
-    x.whole ∙ ap₂ (λ (a b : List Difference). a ++ b) (only-along Tells of_values values_self values_only x.by-tag) (only-along TellsByte of_bytes bytes_self bytes_only x.by_address)
+    x.whole ∙ ap₂ (λ (a b : List Difference). a ++ b) (only-along Tells of_values values_self values_only x.by_tag) (only-along TellsByte of_bytes bytes_self bytes_only x.by_address)
 
 -- ---- no difference is listed exactly of what is the same
 pub none_of_one : (c : Content) → length c.values ≡ length object_tags → length (bytes_of c) ≡ length addresses → differences_of c c ≡ []
-none_of_one c v b = sym (exact_once c c [] (record { objects = []; bytes = []; whole = refl; by-tag = all_same object_tags c.values v; by_address = all_same addresses (bytes_of c) b }))
+none_of_one c v b = sym (exact_once c c [] (record { objects = []; bytes = []; whole = refl; by_tag = all_same object_tags c.values v; by_address = all_same addresses (bytes_of c) b }))
   where
     all_same : {A : Type 0} {tells : ℕ → A → A → Difference → Type 0} (ns : List ℕ) (vs : List A) → length vs ≡ length ns → Exactly tells ns vs vs []
     all_same [] [] h = no_more

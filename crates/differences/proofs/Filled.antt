@@ -12,5 +12,5 @@ module _ {A : Type 0} (whole xs : List A) (i : ℕ) (done : take i xs ≡ take i
   pub stored_next : (d x : A) → i < length xs → i < length whole → x ≡ get_or whole i d → take (i + 1) (set xs i x) ≡ take (i + 1) whole
   stored_next d x h k e = rw (add-one, take-suc-set, take-suc whole i d k, done, e)
 
-  pub stored-end : i ≡ length xs → i ≡ length whole → xs ≡ whole
-  stored-end h k = sym (take_all i xs (omega arith)) ∙ done ∙ take_all i whole (omega arith)
+  pub stored_end : i ≡ length xs → i ≡ length whole → xs ≡ whole
+  stored_end h k = sym (take_all i xs (omega arith)) ∙ done ∙ take_all i whole (omega arith)

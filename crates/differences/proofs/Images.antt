@@ -56,44 +56,44 @@ module _ (e : Edition) (s t : List ℕ) (n : LentEdition e) (p : Meets e s) (q :
   pub first_read : answer e s ≡ accepted c
   first_read = (reads e s c n).1 (p.allowed, p.drawn)
 
-  pub second-read : answer e t ≡ accepted d
-  second-read = (reads e t d n).1 (q.allowed, q.drawn)
+  pub second_read : answer e t ≡ accepted d
+  second_read = (reads e t d n).1 (q.allowed, q.drawn)
 
   -- the answer is the list of the differences of their contents
-  pub differences-listed : compared e s t ≡ told none (differences_of c d)
+  pub differences_listed : compared e s t ≡ told none (differences_of c d)
   unfolding side_by_side
-  differences-listed = rw (first_read, second-read)
+  differences_listed = rw (first_read, second_read)
 
   -- with an entry exactly where they differ, once, in order
-  pub listed-exactly : Exact c d (differences_of c d)
-  listed-exactly =
+  pub listed_exactly : Exact c d (differences_of c d)
+  listed_exactly =
       differences_exact c d (values_16 e c n p.allowed ∙ sym tags_16) (values_16 e d n q.allowed ∙ sym tags_16) (bytes_14 c p.allowed.free) (bytes_14 d q.allowed.free)
 
   -- the bytes that belong to no object are those of the images, by address
-  pub bytes-by-address : (bytes_of c ≡ bytes_at s addresses) × (bytes_of d ≡ bytes_at t addresses)
-  bytes-by-address = (own s c (accepted_is e s c n first_read), own t d (accepted_is e t d n second-read))
+  pub bytes_by_address : (bytes_of c ≡ bytes_at s addresses) × (bytes_of d ≡ bytes_at t addresses)
+  bytes_by_address = (own s c (accepted_is e s c n first_read), own t d (accepted_is e t d n second_read))
     where
       own : (u : List ℕ) (x : Content) → Like u x → bytes_of x ≡ bytes_at u addresses
       own u x k = ap bytes_of k.content ∙ bytes_at_lem u x.values k.size
 
   -- two accepted images give an empty list exactly when they are equal
-  pub empty-when-equal : ((compared e s t).count ≡ 0) ↔ (s ≡ t)
-  empty-when-equal = (there, back)
+  pub empty_when_equal : ((compared e s t).count ≡ 0) ↔ (s ≡ t)
+  empty_when_equal = (there, back)
     where
       count : (compared e s t).count ≡ length (differences_of c d)
-      count = ap (λ (x : Differences). x.count) differences-listed
+      count = ap (λ (x : Differences). x.count) differences_listed
 
       there : (compared e s t).count ≡ 0 → s ≡ t
       there h =
-          let x = listed-exactly in
+          let x = listed_exactly in
           let none : length (x.objects ++ x.bytes) ≡ 0 = sym (ap length x.whole) ∙ sym count ∙ h in
           let both = length-append x.objects x.bytes in
           let same : c ≡ d =
-          same_content c d p.allowed.free q.allowed.free (none_listed x.by-tag (empty_is x.objects (omega arith))) (none_listed x.by_address (empty_is x.bytes (omega arith))) in
+          same_content c d p.allowed.free q.allowed.free (none_listed x.by_tag (empty_is x.objects (omega arith))) (none_listed x.by_address (empty_is x.bytes (omega arith))) in
           sym p.drawn ∙ ap layout same ∙ q.drawn
 
       back : s ≡ t → (compared e s t).count ≡ 0
       back h =
-          let a : accepted c ≡ accepted d = sym first_read ∙ ap (answer e) h ∙ second-read in
+          let a : accepted c ≡ accepted d = sym first_read ∙ ap (answer e) h ∙ second_read in
           let same : c ≡ d = cc in
           count ∙ ap length (ap (differences_of c) (sym same) ∙ none_of_one c (values_16 e c n p.allowed ∙ sym tags_16) (bytes_14 c p.allowed.free))

@@ -10,18 +10,18 @@ use Rattle.differences.specs.Differences.{Difference, along}
 
 module _ {A : Type 0} (f : ℕ → A → A → List Difference) where
   -- the pairs from the i-th on are the i-th and those behind it
-  pub along-next : (ns : List ℕ) (vs ws : List A) (a b : A) (i : ℕ) → i < length ns → i < length vs → i < length ws
+  pub along_next : (ns : List ℕ) (vs ws : List A) (a b : A) (i : ℕ) → i < length ns → i < length vs → i < length ws
       → along f (drop i ns) (drop i vs) (drop i ws) ≡ f (get_or ns i 0) (get_or vs i a) (get_or ws i b) ++ along f (drop (i + 1) ns) (drop (i + 1) vs) (drop (i + 1) ws)
   unfolding along
-  along-next ns vs ws a b i n v w = simp (drop-cons ns i 0 n, drop-cons vs i a v, drop-cons ws i b w, add-one)
+  along_next ns vs ws a b i n v w = simp (drop-cons ns i 0 n, drop-cons vs i a v, drop-cons ws i b w, add-one)
 
-  pub along-end : (ns : List ℕ) (vs ws : List A) (i : ℕ) → length ns ≤ i → along f (drop i ns) vs ws ≡ []
+  pub along_end : (ns : List ℕ) (vs ws : List A) (i : ℕ) → length ns ≤ i → along f (drop i ns) vs ws ≡ []
   unfolding along
-  along-end ns vs ws i h = rw (drop_of_length-le ns h)
+  along_end ns vs ws i h = rw (drop_of_length-le ns h)
 
-  pub along-few : (ns : List ℕ) (vs ws : List A) → ((n : ℕ) (v w : A) → length (f n v w) ≤ 1) → length (along f ns vs ws) ≤ length ns
+  pub along_few : (ns : List ℕ) (vs ws : List A) → ((n : ℕ) (v w : A) → length (f n v w) ≤ 1) → length (along f ns vs ws) ≤ length ns
   unfolding along
-  along-few [] vs ws h = omega arith
-  along-few (n ∷ ns) [] ws h = omega arith
-  along-few (n ∷ ns) (v ∷ vs) [] h = omega arith
-  along-few (n ∷ ns) (v ∷ vs) (w ∷ ws) h = rw length-append (omega (arith, h n v w, along-few ns vs ws h))
+  along_few [] vs ws h = omega arith
+  along_few (n ∷ ns) [] ws h = omega arith
+  along_few (n ∷ ns) (v ∷ vs) [] h = omega arith
+  along_few (n ∷ ns) (v ∷ vs) (w ∷ ws) h = rw length-append (omega (arith, h n v w, along_few ns vs ws h))

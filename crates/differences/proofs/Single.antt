@@ -30,11 +30,11 @@ values_alike tag (b ∷ v) (c ∷ w) h = rw (eq-eqb (suc (length v)) (suc (lengt
 
 -- of two values of one length, by the index of the first difference
 module _ (tag : ℕ) (v w : List ℕ) (i : ℕ) (n : length v ≡ length w) (is : i ≡ agree v w) where
-  pub index-none : i ≡ length v → 0 ≡ entry_of (of_values tag v w)
-  index-none h = rw (values_alike tag v w n, eq-eqb (agree v w) (length v) (sym is ∙ h))
+  pub index_none : i ≡ length v → 0 ≡ entry_of (of_values tag v w)
+  index_none h = rw (values_alike tag v w n, eq-eqb (agree v w) (length v) (sym is ∙ h))
 
-  pub index-some : (i ≡ length v → ⊥) → (r : ℕ) → r ≡ word 4 tag i → r ≡ entry_of (of_values tag v w)
-  index-some h r e = rw (values_alike tag v w n, ne_eqb (agree v w) (length v) (λ q. h (is ∙ q)), ← is) e
+  pub index_some : (i ≡ length v → ⊥) → (r : ℕ) → r ≡ word 4 tag i → r ≡ entry_of (of_values tag v w)
+  index_some h r e = rw (values_alike tag v w n, ne_eqb (agree v w) (length v) (λ q. h (is ∙ q)), ← is) e
 
 -- ---- at most one entry for a pair
 one_or_none : (q : Bool) (x : Difference) → length (cond q [] (x ∷ [])) ≤ 1

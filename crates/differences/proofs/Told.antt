@@ -18,7 +18,7 @@ use Rattle.differences.specs.Differences.{Difference, of_values, of_bytes, along
 use Rattle.differences.specs.Answers.{word, word_of, thirty, told, side_by_side, compared}
 use Rattle.differences.specs.Steps.{object_words, byte_words}
 use Rattle.differences.proofs.Single.{few_of_values, few_of_bytes}
-use Rattle.differences.proofs.Sides.{along-few}
+use Rattle.differences.proofs.Sides.{along_few}
 use Rattle.differences.proofs.Words.{tags_16, addresses_14}
 use Rattle.differences.proofs.Placed.{bytes_at_lem}
 
@@ -31,7 +31,7 @@ pub at_most_30 : (c d : Content) → length (differences_of c d) ≤ 30
 unfolding differences_of
 at_most_30 c d =
     rw length-append
-    (omega (arith, tags_16, addresses_14, along-few of_values object_tags c.values d.values few_of_values, along-few of_bytes addresses (bytes_of c) (bytes_of d) few_of_bytes))
+    (omega (arith, tags_16, addresses_14, along_few of_values object_tags c.values d.values few_of_values, along_few of_bytes addresses (bytes_of c) (bytes_of d) few_of_bytes))
 
 told_is : (l : List Difference) → length l ≤ 30 → (room : List ℕ) (n : ℕ) → Put (replicate 30 0) 0 (map word_of l) room n → record { refusal = none; count = n; entries = room } ≡ told none l
 unfolding thirty
@@ -42,19 +42,19 @@ told_is l few room n put =
     rw (count, words, many)
 
 module _ (e : Edition) (s t : List ℕ) where
-  pub compared-first : (x : Refusal) → answer e s ≡ refused x → (r : Differences) → r ≡ told x [] → r ≡ compared e s t
+  pub compared_first : (x : Refusal) → answer e s ≡ refused x → (r : Differences) → r ≡ told x [] → r ≡ compared e s t
   unfolding side_by_side
-  compared-first x a r h = rw a h
+  compared_first x a r h = rw a h
 
-  pub compared-second : (c : Content) → answer e s ≡ accepted c → (y : Refusal) → answer e t ≡ refused y → (r : Differences) → r ≡ told y [] → r ≡ compared e s t
+  pub compared_second : (c : Content) → answer e s ≡ accepted c → (y : Refusal) → answer e t ≡ refused y → (r : Differences) → r ≡ told y [] → r ≡ compared e s t
   unfolding side_by_side
-  compared-second c a y b r h = rw (a, b) h
+  compared_second c a y b r h = rw (a, b) h
 
-  pub compared-both : (vs ws : List (List ℕ)) → answer e s ≡ accepted (content_at s vs) → answer e t ≡ accepted (content_at t ws) → length s ≡ 256 → length t ≡ 256
+  pub compared_both : (vs ws : List (List ℕ)) → answer e s ≡ accepted (content_at s vs) → answer e t ≡ accepted (content_at t ws) → length s ≡ 256 → length t ≡ 256
       → (r₁ r₂ : List ℕ) (n₁ n₂ : ℕ) → Put (replicate 30 0) 0 (object_words vs ws) r₁ n₁ → Put r₁ n₁ (byte_words s t) r₂ n₂
       → (x : Refusal) → x ≡ none → record { refusal = x; count = n₂; entries = r₂ } ≡ compared e s t
   unfolding side_by_side differences_of content_at
-  compared-both vs ws a b m n r₁ r₂ n₁ n₂ p q x z =
+  compared_both vs ws a b m n r₁ r₂ n₁ n₂ p q x z =
       let objects : List Difference = along of_values object_tags vs ws in
       let bytes : List Difference = along of_bytes addresses (bytes_of (content_at s vs)) (bytes_of (content_at t ws)) in
       let all : differences_of (content_at s vs) (content_at t ws) ≡ objects ++ bytes = refl in

@@ -17,7 +17,7 @@ use Rattle.differences.specs.Differences.{of_values, of_bytes, along, addresses}
 use Rattle.differences.specs.Answers.{word_of}
 use Rattle.differences.specs.Steps.{entry_of, some, bytes_at}
 use Rattle.differences.proofs.Single.{few_of_values, few_of_bytes, some_entry}
-use Rattle.differences.proofs.Sides.{along-next, along-end}
+use Rattle.differences.proofs.Sides.{along_next, along_end}
 
 pub tags_16 : length object_tags ≡ 16
 unfolding tags
@@ -43,11 +43,11 @@ pub objects_next : (vs ws : List (List ℕ)) (i : ℕ) → length vs ≡ 16 → 
 objects_next vs ws i m n h tag tagged v w here there entry is =
     let same : get_or object_tags i 0 ≡ tag = get_or-take 16 tags i 0 h ∙ sym tagged in
     let next : along of_values (drop i object_tags) (drop i vs) (drop i ws) ≡ of_values tag v w ++ along of_values (drop (i + 1) object_tags) (drop (i + 1) vs) (drop (i + 1) ws) =
-    rw (here, there, ← same) (along-next of_values object_tags vs ws [] [] i (omega (arith, tags_16)) (omega arith) (omega arith)) in
+    rw (here, there, ← same) (along_next of_values object_tags vs ws [] [] i (omega (arith, tags_16)) (omega arith) (omega arith)) in
     rw (next, is, some_entry (of_values tag v w) (few_of_values tag v w)) (map-append word_of (of_values tag v w) _)
 
 pub objects_end : (vs ws : List (List ℕ)) (i : ℕ) → i ≡ 16 → objects_from i vs ws ≡ []
-objects_end vs ws i h = rw (along-end of_values object_tags (drop i vs) (drop i ws) i (omega (arith, tags_16)))
+objects_end vs ws i h = rw (along_end of_values object_tags (drop i vs) (drop i ws) i (omega (arith, tags_16)))
 
 -- a value, cut out of its image
 pub part_value : (s st ls : List ℕ) (k : ℕ) → length st ≡ length ls → take (get_or st k 0 + get_or ls k 0 - get_or st k 0) (drop (get_or st k 0) s) ≡ get_or (values_at s st ls) k []
@@ -66,9 +66,9 @@ bytes_next s t i h a at entry is =
     let n = length-map addresses (λ (k : ℕ). get_or t k 0) in
     let here : get_or (bytes_at s addresses) i (get_or s 0 0) ≡ get_or s a 0 = get_or-map (λ (k : ℕ). get_or s k 0) addresses i 0 ∙ ap (λ (k : ℕ). get_or s k 0) (sym at) in
     let there : get_or (bytes_at t addresses) i (get_or t 0 0) ≡ get_or t a 0 = get_or-map (λ (k : ℕ). get_or t k 0) addresses i 0 ∙ ap (λ (k : ℕ). get_or t k 0) (sym at) in
-    let next = along-next of_bytes addresses (bytes_at s addresses) (bytes_at t addresses) (get_or s 0 0) (get_or t 0 0) i (omega (arith, addresses_14)) (omega (arith, addresses_14)) (omega (arith, addresses_14)) in
+    let next = along_next of_bytes addresses (bytes_at s addresses) (bytes_at t addresses) (get_or s 0 0) (get_or t 0 0) i (omega (arith, addresses_14)) (omega (arith, addresses_14)) (omega (arith, addresses_14)) in
     let pair = rw (here, there, ← at) at next in
     rw (pair, is, some_entry (of_bytes a (get_or s a 0) (get_or t a 0)) (few_of_bytes a (get_or s a 0) (get_or t a 0))) (map-append word_of (of_bytes a (get_or s a 0) (get_or t a 0)) _)
 
 pub bytes_end : (s t : List ℕ) (i : ℕ) → i ≡ 14 → bytes_from i s t ≡ []
-bytes_end s t i h = rw (along-end of_bytes addresses (drop i (bytes_at s addresses)) (drop i (bytes_at t addresses)) i (omega (arith, addresses_14)))
+bytes_end s t i h = rw (along_end of_bytes addresses (drop i (bytes_at s addresses)) (drop i (bytes_at t addresses)) i (omega (arith, addresses_14)))

@@ -27,5 +27,5 @@ pub record Exact (c d : Content) (l : List Difference) : Type 0 where
   pub objects : List Difference
   pub bytes : List Difference
   pub whole : l ≡ objects ++ bytes
-  pub by-tag : Exactly Tells object_tags c.values d.values objects
+  pub by_tag : Exactly Tells object_tags c.values d.values objects
   pub by_address : Exactly TellsByte addresses (bytes_of c) (bytes_of d) bytes

@@ -48,17 +48,17 @@ told_apart a b e = go a b (ap (λ (t : ToldFormed). t.number) e) (ap (λ (t : To
     go Unnumbered Unnumbered n r t = refl
 
 module _ (rs : List Row) (i : ℕ) where
-  pub formed-pass : i < length rs → row_formed (eqb i 16) (get_or rs i no_row) ≡ true → formed_from (i + 1) (drop (i + 1) rs) ≡ formed_from i (drop i rs)
+  pub formed_pass : i < length rs → row_formed (eqb i 16) (get_or rs i no_row) ≡ true → formed_from (i + 1) (drop (i + 1) rs) ≡ formed_from i (drop i rs)
   unfolding formed_from
-  formed-pass h t = rw (add-one, drop-cons rs i no_row, t)
+  formed_pass h t = rw (add-one, drop-cons rs i no_row, t)
 
-  pub formed-stop : i < length rs → row_formed (eqb i 16) (get_or rs i no_row) ≡ false → formed_from i (drop i rs) ≡ Bad i
+  pub formed_stop : i < length rs → row_formed (eqb i 16) (get_or rs i no_row) ≡ false → formed_from i (drop i rs) ≡ Bad i
   unfolding formed_from
-  formed-stop h t = rw (drop-cons rs i no_row, t)
+  formed_stop h t = rw (drop-cons rs i no_row, t)
 
-  pub formed-end : i ≡ length rs → formed_from i (drop i rs) ≡ Well
+  pub formed_end : i ≡ length rs → formed_from i (drop i rs) ≡ Well
   unfolding formed_from
-  formed-end h = rw (h, drop-length)
+  formed_end h = rw (h, drop-length)
 
 -- the first bad row is one of the rows
 pub bad_below : (k : ℕ) (rs : List Row) (j : ℕ) → formed_from k rs ≡ Bad j → j < k + length rs

@@ -30,10 +30,10 @@ use Rattle.example.proofs.Grouped.{kind}
 use Rattle.example.proofs.Runs.{most_28, met_will, will_met}
 use Rattle.example.proofs.Shown.{told_both, told_will}
 use Rattle.example.proofs.Totals.{total, unit_size, template_size}
-use Rattle.example.proofs.Wills.{Will, chosen-will, chosen-names, chosen-town, size-fewest, size_most, size-more}
+use Rattle.example.proofs.Wills.{Will, chosen_will, chosen_names, chosen_town, size_fewest, size_most, size_more}
 use Rattle.example.proofs.Told.{Told, told_at, met_at, row_told, row_other, part_told, part_other, value_at_lem, values_length, length_at_lem, names_by, town_by, formed_at}
 use Rattle.example.proofs.Chosen.{chosen_enough}
-use Rattle.example.proofs.Refused.{example_content, example_number, example_lent, example-shown}
+use Rattle.example.proofs.Refused.{example_content, example_number, example_lent, example_shown}
 
 -- ---- all rows are met where each is
 all_by : (ts : List ℕ) (rs : List Row) (vs : List (List ℕ)) → length vs ≡ length ts → length ts ≤ length rs → ((k : ℕ) → k < length vs → RowMet (get_or rs k no_row) (get_or vs k []))
@@ -118,14 +118,14 @@ module _ (i o : Edition) (n : Nesting) (li : LentEdition i) (lo : LentEdition o)
     told-met : (long : ℕ) → RowMet (row_of n.row) (value_for (part_of n n.row) (row_of n.row) (other_of n.row) (length_at rows long n.row))
     unfolding length_at
     told-met long =
-        let w = chosen-will rows length_of will (ltb (start_of n.row) long) n.row (kind n.row) h in
+        let w = chosen_will rows length_of will (ltb (start_of n.row) long) n.row (kind n.row) h in
         subst (λ (p : ℕ). RowMet (row_of n.row) (value_for p (row_of n.row) (other_of n.row) (length_at rows long n.row))) (sym (part_told n))
         (told_both (row_of n.row) (other_of n.row) n.clause (length_at rows long n.row) (formed n.row h) (formed_at o n.row lo t.outer h) t.at.fails
         (subst (λ (r : Row). will_do r (length_at rows long n.row) ≡ true) (row_told i.rows o.rows n (omega (arith, h, li))) w)).0
 
     value-met : (long k : ℕ) → k < 16 → RowMet (row_of k) (get_or (values_of i.rows o.rows n long) k [])
     unfolding length_at
-    value-met long k b = subst (RowMet (row_of k)) (sym (value_at_lem i.rows o.rows n long k b)) (go (eqb k n.row) refl (chosen-will rows length_of will (ltb (start_of k) long) k (kind k) b))
+    value-met long k b = subst (RowMet (row_of k)) (sym (value_at_lem i.rows o.rows n long k b)) (go (eqb k n.row) refl (chosen_will rows length_of will (ltb (start_of k) long) k (kind k) b))
       where
         go : (q : Bool) → eqb k n.row ≡ q → will_do (get_or rows k no_row) (length_at rows long k) ≡ true → RowMet (row_of k) (value_for (part_of n k) (row_of k) (other_of k) (length_at rows long k))
         go false e w =
@@ -147,8 +147,8 @@ module _ (i o : Edition) (n : Nesting) (li : LentEdition i) (lo : LentEdition o)
       formed = t.inner;
       rows = all_by object_tags i.rows (values_of i.rows o.rows n long) (values_length i.rows o.rows n long ∙ sym objects_16) (omega (arith, objects_16, li))
           (λ k b. value-met long k (omega (arith, b, values_length i.rows o.rows n long)));
-      names = names_by (values_of i.rows o.rows n long) (length_at rows long) (length_at_lem i.rows o.rows n long) ∙ chosen-names rows length_of will (ltb 6 long);
-      town = town_by (values_of i.rows o.rows n long) (length_at rows long) (length_at_lem i.rows o.rows n long) ∙ chosen-town rows length_of will (ltb 12 long);
+      names = names_by (values_of i.rows o.rows n long) (length_at rows long) (length_at_lem i.rows o.rows n long) ∙ chosen_names rows length_of will (ltb 6 long);
+      town = town_by (values_of i.rows o.rows n long) (length_at rows long) (length_at_lem i.rows o.rows n long) ∙ chosen_town rows length_of will (ltb 12 long);
       least = least;
       most = most;
       first = refl;
@@ -170,12 +170,12 @@ module _ (i o : Edition) (n : Nesting) (li : LentEdition i) (lo : LentEdition o)
     unfolding enough
     chosen_most =
         first_most (λ (k : ℕ). template_length (objects_of (card_of i o n k))) 16 0
-        (λ j b. omega (arith, card_size j, card_size (suc j), size-more rows length_of will j (omega (arith, b))))
-        (omega (arith, card_size 0, size-fewest rows length_of will, own-size, s.allowed.most))
+        (λ j b. omega (arith, card_size j, card_size (suc j), size_more rows length_of will j (omega (arith, b))))
+        (omega (arith, card_size 0, size_fewest rows length_of will, own-size, s.allowed.most))
 
-    pub chosen-allowed : Allowed i (chosen_card i o n)
+    pub chosen_allowed : Allowed i (chosen_card i o n)
     unfolding chosen_card
-    chosen-allowed = card-allowed chosenLong chosen-least chosen_most
+    chosen_allowed = card-allowed chosenLong chosen-least chosen_most
 
 -- the inner writes the record into a buffer of 256 bytes exactly where there is a card that shows the no that is told
 pub example_written : (i o : Edition) (b : List ℕ) → LentEdition i → LentEdition o → (nesting_of i o).row < 16 → length b ≡ 256
@@ -183,10 +183,10 @@ pub example_written : (i o : Edition) (b : List ℕ) → LentEdition i → LentE
 example_written i o b li lo h l = (there, back)
   where
     there : record_refusal i (example_of i o) b ≡ none → Exists i o
-    there w = record { content = chosen_card i o (nesting_of i o); shown = example-shown i o b li lo h w }
+    there w = record { content = chosen_card i o (nesting_of i o); shown = example_shown i o b li lo h w }
 
     back : Exists i o → record_refusal i (example_of i o) b ≡ none
     back e =
         let t : Told i o (nesting_of i o) = told_at i o (nesting_of i o) h (nesting_said i o (li ∙ sym lo)) in
-        let a : Allowed i (chosen_card i o (nesting_of i o)) = chosen-allowed i o (nesting_of i o) li lo h t e.content e.shown in
+        let a : Allowed i (chosen_card i o (nesting_of i o)) = chosen_allowed i o (nesting_of i o) li lo h t e.content e.shown in
         (library.second.writes i (example_of i o) b li (example_lent i o h)).1 (subst (Allowed i) (sym (example_content i o h)) a, example_number i o h, l)

@@ -13,5 +13,5 @@ module _ {A B : Type 0} (g : A → B) (f : ℕ → A) (xs : List B) (k : ℕ) (d
   unfolding listed
   listed_more h e = rw (e, add-one, take-suc-set, done) (sym (map-append g (listed k f) (f k ∷ [])))
 
-  pub listed-all : k ≡ length xs → xs ≡ map g (listed k f)
-  listed-all h = sym (take_all k xs (omega arith)) ∙ done
+  pub listed_all : k ≡ length xs → xs ≡ map g (listed k f)
+  listed_all h = sym (take_all k xs (omega arith)) ∙ done

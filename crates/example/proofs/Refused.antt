@@ -29,7 +29,7 @@ use Rattle.demands.proofs.Library.{library}
 use Rattle.demands.proofs.NestedLaws.{outer_allows}
 use Rattle.choosing.specs.declared.Three.{Three}
 use Rattle.choosing.specs.Choices.{will_do, three, sum_holds, chosen}
-use Rattle.choosing.proofs.Fitting.{chosen-fits, sum_chosen}
+use Rattle.choosing.proofs.Fitting.{chosen_fits, sum_chosen}
 use Rattle.example.specs.Cards.{narrow, rows_for, grouped, start_of, plain_row, three_at, place_of, by_place, length_at, value_for, values_of, card_of, enough, first_from, chosen_card, example_of}
 use Rattle.example.specs.Shows.{image, Shows, ShowsClause, Shown}
 use Rattle.example.proofs.Grouped.{Kind, alone, title, given, prefix, country, postal, town, kind}
@@ -45,7 +45,7 @@ alone_told rows long k m e small h =
     let q : Bool = ltb (start_of k) long in
     let r : Row = get_or rows k no_row in
     let p = parts false plain_row plain_row r (chosen q false plain_row plain_row r)
-    (chosen-fits q false plain_row plain_row r (three 0 0 m) (alone_small m small) (alone_fits r m h)) in
+    (chosen_fits q false plain_row plain_row r (three 0 0 m) (alone_small m small) (alone_fits r m h)) in
     subst (λ (x : ℕ). will_do r x ≡ true) (sym (alone_length q rows k e)) p.third
 
 names_told : (rows : List Row) (long : ℕ) → sum_holds true (three (length_at rows long 6) (length_at rows long 7) (length_at rows long 8)) ≡ true
@@ -98,15 +98,15 @@ module _ (i o : Edition) (n : Nesting) (long : ℕ) (li : LentEdition i) (lo : L
       (sym (names_by (values_of i.rows o.rows n long) (length_at rows long) at) ∙ a)
       (sym (town_by (values_of i.rows o.rows n long) (length_at rows long) at) ∙ b))
 
-  pub value-told : get_or (values_of i.rows o.rows n long) n.row [] ≡ value_for n.clause inner-row outer-row (length_at rows long n.row)
-  value-told =
+  pub value_told : get_or (values_of i.rows o.rows n long) n.row [] ≡ value_for n.clause inner-row outer-row (length_at rows long n.row)
+  value_told =
       value_at_lem i.rows o.rows n long n.row h
       ∙ ap (λ (p : ℕ). value_for p inner-row outer-row (length_at rows long n.row)) (part_told n)
 
-  pub clause-told : names_fit (map length (values_of i.rows o.rows n long)) ≡ true → town_fits (map length (values_of i.rows o.rows n long)) ≡ true
+  pub clause_told : names_fit (map length (values_of i.rows o.rows n long)) ≡ true → town_fits (map length (values_of i.rows o.rows n long)) ≡ true
       → ShowsClause outer-row n.clause (get_or (values_of i.rows o.rows n long) n.row [])
-  clause-told a b =
-      subst (ShowsClause outer-row n.clause) (sym value-told)
+  clause_told a b =
+      subst (ShowsClause outer-row n.clause) (sym value_told)
       (told_both inner-row outer-row n.clause (length_at rows long n.row) (formed_at i n.row li t.inner h) (formed_at o n.row lo t.outer h) t.at.fails (will-told a b)).1
 
 -- a content that shows the clause told does not meet the outer's rows
@@ -176,13 +176,13 @@ module _ (i o : Edition) (b : List ℕ) (li : LentEdition i) (lo : LentEdition o
   allowed = subst (Allowed i) (example_content i o h) ((library.second.writes i (example_of i o) b li (example_lent i o h)).0 w).0
 
   -- its object at the row told shows the clause told
-  pub example-shown : Shown i o (nesting_of i o) card
-  example-shown =
+  pub example_shown : Shown i o (nesting_of i o) card
+  example_shown =
       let values = made_values i o (nesting_of i o) card made in
       record {
         allowed = allowed;
         clause = subst (λ (vs : List (List ℕ)). ShowsClause (get_or o.rows (nesting_of i o).row no_row) (nesting_of i o).clause (get_or vs (nesting_of i o).row [])) (sym values)
-            (clause-told i o (nesting_of i o) made.long li lo h told
+            (clause_told i o (nesting_of i o) made.long li lo h told
             (subst (λ (vs : List (List ℕ)). names_fit (map length vs) ≡ true) values allowed.names)
             (subst (λ (vs : List (List ℕ)). town_fits (map length vs) ≡ true) values allowed.town));
       }
@@ -205,13 +205,13 @@ module _ (i o : Edition) (b : List ℕ) (li : LentEdition i) (lo : LentEdition o
 
   unmet : AllMet (object_rows o) met.content.values → ⊥
   unmet a =
-      outer_unmet i o (nesting_of i o) card h (values_16 i o (nesting_of i o) card made) told example-shown.clause
+      outer_unmet i o (nesting_of i o) card h (values_16 i o (nesting_of i o) card made) told example_shown.clause
       (subst (AllMet (object_rows o)) (ap (λ (c : Content). c.values) content) a)
 
   -- the inner accepts the image, and the outer refuses it
-  pub example-shows : Shows i o (image i o b)
+  pub example_shows : Shows i o (image i o b)
   unfolding met wide
-  example-shows = record {
+  example_shows = record {
     inner = forth.0;
     outer = read_refused o met.content (reading o (image i o b)) ((library.third o widest lo widest_rows (in_widest o lo told.outer)).reads (image i o b) wide).1 unmet;
   }

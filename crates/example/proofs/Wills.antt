@@ -16,7 +16,7 @@ use Rattle.edition.proofs.Sets.{beyond}
 use Rattle.card.specs.Rules.{sum_fits}
 use Rattle.choosing.specs.declared.Three.{Three}
 use Rattle.choosing.specs.Choices.{will_do, size_of, three, sum_holds, fits, size_in, chosen}
-use Rattle.choosing.proofs.Fitting.{Small, chosen-small, chosen-fits, chosen_fewest, chosen_most, fits_most}
+use Rattle.choosing.proofs.Fitting.{Small, chosen_small, chosen_fits, chosen_fewest, chosen_most, fits_most}
 use Rattle.example.specs.Cards.{grouped, start_of, plain_row, three_at, place_of, by_place, length_at}
 use Rattle.example.proofs.Grouped.{Kind, alone, title, given, prefix, country, postal, town, kind}
 use Rattle.example.proofs.Runs.{will_some}
@@ -91,8 +91,8 @@ unfolding three_at
 three_small long rows k = go (grouped k)
   where
     go : (q : Bool) → Small (cond q (chosen long (ltb k 9) (get_or rows (start_of k) no_row) (get_or rows (start_of k + 1) no_row) (get_or rows (start_of k + 2) no_row)) (chosen long false plain_row plain_row (get_or rows k no_row)))
-    go true = chosen-small long (ltb k 9) (get_or rows (start_of k) no_row) (get_or rows (start_of k + 1) no_row) (get_or rows (start_of k + 2) no_row)
-    go false = chosen-small long false plain_row plain_row (get_or rows k no_row)
+    go true = chosen_small long (ltb k 9) (get_or rows (start_of k) no_row) (get_or rows (start_of k + 1) no_row) (get_or rows (start_of k + 2) no_row)
+    go false = chosen_small long false plain_row plain_row (get_or rows k no_row)
 
 pub length_small : (long : Bool) (rows : List Row) (k : ℕ) → length_in long rows k ≤ 28
 length_small long rows k = by_small (place_of k) (three_at long rows k) (three_small long rows k)
@@ -180,32 +180,32 @@ module _ (rows : List Row) (n : ℕ → ℕ) (w : Will rows n) where
   town-small = record { first = w.small 12 (omega arith); second = w.small 13 (omega arith); third = w.small 14 (omega arith) }
 
   names-parts : (long : Bool) → Parts true (get_or rows 6 no_row) (get_or rows 7 no_row) (get_or rows 8 no_row) (names_of long rows)
-  names-parts long = parts true _ _ _ _ (chosen-fits long true _ _ _ _ names-small names-fit)
+  names-parts long = parts true _ _ _ _ (chosen_fits long true _ _ _ _ names-small names-fit)
 
   town-parts : (long : Bool) → Parts false (get_or rows 12 no_row) (get_or rows 13 no_row) (get_or rows 14 no_row) (town_of long rows)
-  town-parts long = parts false _ _ _ _ (chosen-fits long false _ _ _ _ town-small town-fit)
+  town-parts long = parts false _ _ _ _ (chosen_fits long false _ _ _ _ town-small town-fit)
 
   alone-parts : (long : Bool) (k : ℕ) → k < 16 → Parts false plain_row plain_row (get_or rows k no_row) (chosen long false plain_row plain_row (get_or rows k no_row))
   alone-parts long k b =
       parts false plain_row plain_row (get_or rows k no_row) _
-      (chosen-fits long false plain_row plain_row (get_or rows k no_row) (three 0 0 (n k)) (alone_small (n k) (w.small k b)) (alone_fits (get_or rows k no_row) (n k) (w.each k b)))
+      (chosen_fits long false plain_row plain_row (get_or rows k no_row) (three 0 0 (n k)) (alone_small (n k) (w.small k b)) (alone_fits (get_or rows k no_row) (n k) (w.each k b)))
 
   -- each length chosen will do
-  pub chosen-will : (long : Bool) (k : ℕ) → Kind k → k < 16 → will_do (get_or rows k no_row) (length_in long rows k) ≡ true
+  pub chosen_will : (long : Bool) (k : ℕ) → Kind k → k < 16 → will_do (get_or rows k no_row) (length_in long rows k) ≡ true
   unfolding by_place place_of three_at start_of grouped
-  chosen-will long k (alone e) b = rw (alone_length long rows k e) (alone-parts long k b).third
-  chosen-will long k title b = (names-parts long).first
-  chosen-will long k given b = (names-parts long).second
-  chosen-will long k prefix b = (names-parts long).third
-  chosen-will long k country b = (town-parts long).first
-  chosen-will long k postal b = (town-parts long).second
-  chosen-will long k town b = (town-parts long).third
+  chosen_will long k (alone e) b = rw (alone_length long rows k e) (alone-parts long k b).third
+  chosen_will long k title b = (names-parts long).first
+  chosen_will long k given b = (names-parts long).second
+  chosen_will long k prefix b = (names-parts long).third
+  chosen_will long k country b = (town-parts long).first
+  chosen_will long k postal b = (town-parts long).second
+  chosen_will long k town b = (town-parts long).third
 
-  pub chosen-names : (long : Bool) → sum_holds true (three (length_in long rows 6) (length_in long rows 7) (length_in long rows 8)) ≡ true
-  chosen-names long = subst (λ (t : Three). sum_holds true t ≡ true) (sym (names_lengths long rows)) (names-parts long).sum
+  pub chosen_names : (long : Bool) → sum_holds true (three (length_in long rows 6) (length_in long rows 7) (length_in long rows 8)) ≡ true
+  chosen_names long = subst (λ (t : Three). sum_holds true t ≡ true) (sym (names_lengths long rows)) (names-parts long).sum
 
-  pub chosen-town : (long : Bool) → sum_holds false (three (length_in long rows 12) (length_in long rows 13) (length_in long rows 14)) ≡ true
-  chosen-town long = subst (λ (t : Three). sum_holds false t ≡ true) (sym (town_lengths long rows)) (town-parts long).sum
+  pub chosen_town : (long : Bool) → sum_holds false (three (length_in long rows 12) (length_in long rows 13) (length_in long rows 14)) ≡ true
+  chosen_town long = subst (λ (t : Three). sum_holds false t ≡ true) (sym (town_lengths long rows)) (town-parts long).sum
 
   -- their bytes, by the sums
   names-unit : (long : Bool) → unit_size (length_in long rows) 6 ≡ size_in (names_of long rows)
@@ -253,11 +253,11 @@ module _ (rows : List Row) (n : ℕ → ℕ) (w : Will rows n) where
   many u town b = omega (arith, (unit_town n).2)
 
   top : (long : Bool) (u : ℕ) → Kind u → u < 16 → unit_size (length_in long rows) u ≤ 32
-  top long u (alone e) b = omega (arith, alone-unit long u b e, fits_most false _ (chosen-small long false plain_row plain_row (get_or rows u no_row)) (alone-parts long u b).sum)
-  top long u title b = omega (arith, names-unit long, fits_most true _ (chosen-small long true (get_or rows 6 no_row) (get_or rows 7 no_row) (get_or rows 8 no_row)) (names-parts long).sum)
+  top long u (alone e) b = omega (arith, alone-unit long u b e, fits_most false _ (chosen_small long false plain_row plain_row (get_or rows u no_row)) (alone-parts long u b).sum)
+  top long u title b = omega (arith, names-unit long, fits_most true _ (chosen_small long true (get_or rows 6 no_row) (get_or rows 7 no_row) (get_or rows 8 no_row)) (names-parts long).sum)
   top long u given b = omega (arith, (unit_names (length_in long rows)).1)
   top long u prefix b = omega (arith, (unit_names (length_in long rows)).2)
-  top long u country b = omega (arith, town-unit long, fits_most false _ (chosen-small long false (get_or rows 12 no_row) (get_or rows 13 no_row) (get_or rows 14 no_row)) (town-parts long).sum)
+  top long u country b = omega (arith, town-unit long, fits_most false _ (chosen_small long false (get_or rows 12 no_row) (get_or rows 13 no_row) (get_or rows 14 no_row)) (town-parts long).sum)
   top long u postal b = omega (arith, (unit_town (length_in long rows)).1)
   top long u town b = omega (arith, (unit_town (length_in long rows)).2)
 
@@ -265,8 +265,8 @@ module _ (rows : List Row) (n : ℕ → ℕ) (w : Will rows n) where
   abbrev size_at : ℕ → ℕ
   size_at long = total 16 (unit_size (length_at rows long))
 
-  pub size-fewest : size_at 0 ≤ total 16 (unit_size n)
-  size-fewest =
+  pub size_fewest : size_at 0 ≤ total 16 (unit_size n)
+  size_fewest =
       total_less 16 (unit_size (length_at rows 0)) (unit_size n)
       (λ u b. omega (arith, mixed rows 0 u (kind u), ap (λ (q : Bool). unit_size (length_in q rows) u) (le-ltb u 0 (omega arith)), few u (kind u) b))
 
@@ -275,8 +275,8 @@ module _ (rows : List Row) (n : ℕ → ℕ) (w : Will rows n) where
       total_less 16 (unit_size n) (unit_size (length_at rows 16))
       (λ u b. omega (arith, mixed rows 16 u (kind u), ap (λ (q : Bool). unit_size (length_in q rows) u) (lt-ltb u 16 b), many u (kind u) b))
 
-  pub size-more : (long : ℕ) → long < 16 → size_at (suc long) ≤ size_at long + 32
-  size-more long b = total_one 16 (unit_size (length_at rows long)) (unit_size (length_at rows (suc long))) long others here
+  pub size_more : (long : ℕ) → long < 16 → size_at (suc long) ≤ size_at long + 32
+  size_more long b = total_one 16 (unit_size (length_at rows long)) (unit_size (length_at rows (suc long))) long others here
     where
       others : (k : ℕ) → k < 16 → (k ≡ long → ⊥) → unit_size (length_at rows (suc long)) k ≤ unit_size (length_at rows long) k
       others k c d = omega (arith, mixed rows long k (kind k), mixed rows (suc long) k (kind k), ap (λ (q : Bool). unit_size (length_in q rows) k) (below_same k long d))

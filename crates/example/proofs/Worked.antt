@@ -21,7 +21,7 @@ use Rattle.card.proofs.Chains.{neither}
 use Rattle.card.proofs.Unrefused.{row_in}
 use Rattle.demands.specs.Demands.{LentEdition}
 use Rattle.example.specs.Shows.{image, Shows, ShowsClause, absent, Exists}
-use Rattle.example.proofs.Refused.{example-shows}
+use Rattle.example.proofs.Refused.{example_shows}
 use Rattle.example.proofs.Complete.{example_written}
 
 told_8f : nesting_of terminal issue ≡ told 3 2
@@ -94,4 +94,4 @@ exists = record {
 -- terminal writes the card given into any buffer of 256 bytes, and accepts it; issue refuses it
 pub terminal_shown : (b : List ℕ) → length b ≡ 256 → Shows terminal issue (image terminal issue b)
 terminal_shown b l =
-    example-shows terminal issue b lent.0 lent.1 row ((example_written terminal issue b lent.0 lent.1 row l).1 exists)
+    example_shows terminal issue b lent.0 lent.1 row ((example_written terminal issue b lent.0 lent.1 row l).1 exists)

@@ -53,9 +53,9 @@ module _ (s : List ℕ) (long : length s ≡ 256) (right : field_wrong (field_of
       record { long = long; is = refl; least = omega (arith, x.least); most = omega (arith, x.used, x.most) }
 
   -- where the objects start, and how many bytes they have
-  pub start-most : start_of s ≤ 33
+  pub start_most : start_of s ≤ 33
   unfolding start_of
-  start-most = omega (arith, (extent (drop 31 s) right).used)
+  start_most = omega (arith, (extent (drop 31 s) right).used)
 
   pub size_most : (field_told (field_of s)).length ≤ 212
   size_most = (extent (drop 31 s) right).most
@@ -64,9 +64,9 @@ module _ (s : List ℕ) (long : length s ≡ 256) (right : field_wrong (field_of
   unfolding end_of
   ordered = omega arith
 
-  pub template-is : objects_in s ≡ take (end_of s - start_of s) (drop (start_of s) s)
+  pub template_is : objects_in s ≡ take (end_of s - start_of s) (drop (start_of s) s)
   unfolding end_of
-  template-is =
+  template_is =
       let same : (field_told (field_of s)).length ≡ start_of s + (field_told (field_of s)).length - start_of s = omega arith in
       ap (λ (n : ℕ). take n (drop (start_of s) s)) same
 

@@ -12,7 +12,7 @@ use Rattle.card.specs.Layout.{identifier, head}
 use Rattle.card.specs.Frame.{free_of, head_end}
 use Rattle.ground.proofs.Lists.{agree_self, same_equal}
 use Rattle.frame.specs.Checks.{head_in}
-use Rattle.ground.proofs.Runs.{agree_cut, agree_own, run-passes, part-passes}
+use Rattle.ground.proofs.Runs.{agree_cut, agree_own, run_passes, part_passes}
 
 -- the fixed bytes, and what follows each part of them
 abbrev pub chip : List ℕ
@@ -60,17 +60,17 @@ module _ (s : List ℕ) (long : 30 ≤ length s) where
   unfolding head free_of identifier
   head_long = simp (length-append, length-take, length-drop) (omega arith)
 
-  pub from-chip : head_end s ≡ 1 + agree (chip ++ behind_chip s) (drop 1 s)
+  pub from_chip : head_end s ≡ 1 + agree (chip ++ behind_chip s) (drop 1 s)
   unfolding head_end head free_of
-  from-chip =
+  from_chip =
       agree_cut 30 (head (get_or s 0 0) (free_of s)) s head_long
       ∙ rw (take_at (free s) (last s) 11 free-long, drop_at (free s) (last s) 11 free-long) (first_right s _ (omega arith))
 
   -- the free bytes are as they stand
-  pub over-free : 6 + agree (behind_chip s) (drop 6 s) ≡ 17 + agree (application ++ behind_application s) (drop 17 s)
-  over-free =
+  pub over_free : 6 + agree (behind_chip s) (drop 6 s) ≡ 17 + agree (application ++ behind_application s) (drop 17 s)
+  over_free =
       let own = agree_own 11 (drop 6 s) in
-      rw free-long at (run-passes s 6 (free s) (application ++ behind_application s) (omega arith))
+      rw free-long at (run_passes s 6 (free s) (application ++ behind_application s) (omega arith))
 
   pub over_last : 29 + agree (last s) (drop 29 s) ≡ 30
   unfolding agree
@@ -81,10 +81,10 @@ module _ (s : List ℕ) (long : 30 ≤ length s) where
       → same_list (take 6 (drop 21 s)) identifier ≡ true → same_list (take 2 (drop 27 s)) body ≡ true → head_end s ≡ 30
   unfolding identifier
   all_right a b c d =
-      from-chip
-      ∙ part-passes s 1 5 chip (behind_chip s) (sym (agree_whole _ _ a)) (omega arith) (omega arith)
-      ∙ over-free
-      ∙ part-passes s 17 4 application (behind_application s) (sym (agree_whole _ _ b)) (omega arith) (omega arith)
-      ∙ part-passes s 21 6 identifier (behind_identifier s) (sym (agree_whole _ _ c)) (omega arith) (omega arith)
-      ∙ part-passes s 27 2 body (last s) (sym (agree_whole _ _ d)) (omega arith) (omega arith)
+      from_chip
+      ∙ part_passes s 1 5 chip (behind_chip s) (sym (agree_whole _ _ a)) (omega arith) (omega arith)
+      ∙ over_free
+      ∙ part_passes s 17 4 application (behind_application s) (sym (agree_whole _ _ b)) (omega arith) (omega arith)
+      ∙ part_passes s 21 6 identifier (behind_identifier s) (sym (agree_whole _ _ c)) (omega arith) (omega arith)
+      ∙ part_passes s 27 2 body (last s) (sym (agree_whole _ _ d)) (omega arith) (omega arith)
       ∙ over_last

@@ -20,7 +20,7 @@ use Rattle.card.proofs.Chains.{refused_in}
 use Rattle.demands.specs.Demands.{LentEdition, Accepts, library_reader}
 use Rattle.lookup.specs.Parts.{within}
 use Rattle.lookup.proofs.Cuts.{within_is}
-use Rattle.lookup.proofs.Tells.{same_refusal, tell-alike}
+use Rattle.lookup.proofs.Tells.{same_refusal, tell_alike}
 use Rattle.fresher.specs.declared.Card.{Card}
 use Rattle.fresher.specs.declared.Fresher.{Fresher}
 use Rattle.fresher.specs.Comparing.{months_of, expires, validity_of, card_of, unweighed, later, weighed, fresher_of, name_of}
@@ -61,11 +61,11 @@ validity_read e s = get_or (content_of (reading e s).content).values 15 []
 
 card_name : (e : Edition) (s : List ℕ) → LentEdition e → (card_of e s).refusal.number ≡ 0 → within s (card_of e s).start (card_of e s).length ≡ family_read e s
 unfolding card_of
-card_name e s n z = sym ((tell-alike e s n (accepts_zero e s z)).value 9)
+card_name e s n z = sym ((tell_alike e s n (accepts_zero e s z)).value 9)
 
 card_months : (e : Edition) (s : List ℕ) → LentEdition e → (card_of e s).refusal.number ≡ 0 → (card_of e s).months ≡ months_of (validity_read e s)
 unfolding card_of
-card_months e s n z = ap months_of (sym ((tell-alike e s n (accepts_zero e s z)).value 15))
+card_months e s n z = ap months_of (sym ((tell_alike e s n (accepts_zero e s z)).value 15))
 
 module _ (e : Edition) (s t : List ℕ) (n : LentEdition e) (z : (fresher_of e s t).refusal.number ≡ 0) where
   abbrev first : Card
@@ -82,9 +82,9 @@ module _ (e : Edition) (s t : List ℕ) (n : LentEdition e) (z : (fresher_of e s
   unfolding fresher_of
   is = right.is
 
-  pub name-told : name_of (fresher_of e s t) s t ≡ family_read e (cond (fresher_of e s t).second t s)
+  pub name_told : name_of (fresher_of e s t) s t ≡ family_read e (cond (fresher_of e s t).second t s)
   unfolding later
-  name-told = rw is (go (ltb first.months second.months))
+  name_told = rw is (go (ltb first.months second.months))
     where
       go : (q : Bool) → within (cond q t s) (cond q second.start first.start) (cond q second.length first.length) ≡ family_read e (cond q t s)
       go true = card_name e t n right.second
@@ -94,22 +94,22 @@ module _ (e : Edition) (s t : List ℕ) (n : LentEdition e) (z : (fresher_of e s
   abbrev monthsRead : List ℕ → ℕ
   monthsRead u = months_of (validity_read e u)
 
-  pub months-told : (fresher_of e s t).months ≡ pos (monthsRead t) -ℤ pos (monthsRead s)
+  pub months_told : (fresher_of e s t).months ≡ pos (monthsRead t) -ℤ pos (monthsRead s)
   unfolding later
-  months-told = rw (is, card_months e t n right.second, card_months e s n right.first)
+  months_told = rw (is, card_months e t n right.second, card_months e s n right.first)
 
   -- the card that is named is valid as long as the other, at least
-  pub never-older : (monthsRead s ≤ monthsRead (cond (fresher_of e s t).second t s)) × (monthsRead t ≤ monthsRead (cond (fresher_of e s t).second t s))
+  pub never_older : (monthsRead s ≤ monthsRead (cond (fresher_of e s t).second t s)) × (monthsRead t ≤ monthsRead (cond (fresher_of e s t).second t s))
   unfolding later
-  never-older = rw (is, card_months e t n right.second, card_months e s n right.first) (go (ltb (monthsRead s) (monthsRead t)) refl)
+  never_older = rw (is, card_months e t n right.second, card_months e s n right.first) (go (ltb (monthsRead s) (monthsRead t)) refl)
     where
       go : (q : Bool) → ltb (monthsRead s) (monthsRead t) ≡ q → (monthsRead s ≤ monthsRead (cond q t s)) × (monthsRead t ≤ monthsRead (cond q t s))
       go true h = let l = ltb-true (monthsRead s) (monthsRead t) h in (omega arith, omega arith)
       go false h = let l = ltb-false (monthsRead s) (monthsRead t) h in (omega arith, omega arith)
 
   -- both cards are dated, and by the rule of expiry
-  pub both-dated : expires e && (first.dated && second.dated) ≡ true
-  both-dated = right.dated
+  pub both_dated : expires e && (first.dated && second.dated) ≡ true
+  both_dated = right.dated
 
 -- ---- with a refusal the part is empty, the distance 0 and the card named the first
 pub record Nothing (f : Fresher) (s t : List ℕ) : Type 0 where

@@ -17,17 +17,17 @@ use Rattle.front.specs.Refusing.{is_there, printed_rows, underscored, lines_refu
 
 -- ---- 30, 31, 32
 module _ (fund : Bool) (c : Content) where
-  pub lines-30 : is_there (addition_sign (value c 5)) ≡ false → lines_refusal fund c ≡ refuse 30 0 0
+  pub lines_30 : is_there (addition_sign (value c 5)) ≡ false → lines_refusal fund c ≡ refuse 30 0 0
   unfolding lines_refusal gate
-  lines-30 e = rw e
+  lines_30 e = rw e
 
-  pub lines-31 : is_there (addition_sign (value c 5)) ≡ true → is_there (value c 15) ≡ false → lines_refusal fund c ≡ refuse 31 0 0
+  pub lines_31 : is_there (addition_sign (value c 5)) ≡ true → is_there (value c 15) ≡ false → lines_refusal fund c ≡ refuse 31 0 0
   unfolding lines_refusal gate
-  lines-31 e f = rw (e, f)
+  lines_31 e f = rw (e, f)
 
-  pub lines-32 : is_there (addition_sign (value c 5)) ≡ true → is_there (value c 15) ≡ true → underscored c (printed_rows fund) ≡ true → lines_refusal fund c ≡ refuse 32 0 0
+  pub lines_32 : is_there (addition_sign (value c 5)) ≡ true → is_there (value c 15) ≡ true → underscored c (printed_rows fund) ≡ true → lines_refusal fund c ≡ refuse 32 0 0
   unfolding lines_refusal gate
-  lines-32 e f g = rw (e, f, g)
+  lines_32 e f g = rw (e, f, g)
 
   pub lines_none : is_there (addition_sign (value c 5)) ≡ true → is_there (value c 15) ≡ true → underscored c (printed_rows fund) ≡ false → lines_refusal fund c ≡ none
   unfolding lines_refusal gate
@@ -35,17 +35,17 @@ module _ (fund : Bool) (c : Content) where
 
 -- ---- the whole
 module _ (fund : Bool) (c : Content) (n : ℕ) where
-  pub print-own : ((edition_refusal terminal c).number ≡ 0 → ⊥) → print_refusal fund c n ≡ edition_refusal terminal c
+  pub print_own : ((edition_refusal terminal c).number ≡ 0 → ⊥) → print_refusal fund c n ≡ edition_refusal terminal c
   unfolding print_refusal
-  print-own h = or_stop _ _ h
+  print_own h = or_stop _ _ h
 
-  pub print-20 : (edition_refusal terminal c).number ≡ 0 → (n ≡ 112 → ⊥) → print_refusal fund c n ≡ refuse 20 0 0
+  pub print_20 : (edition_refusal terminal c).number ≡ 0 → (n ≡ 112 → ⊥) → print_refusal fund c n ≡ refuse 20 0 0
   unfolding print_refusal gate
-  print-20 z h = or_pass _ _ z ∙ rw (ne_eqb n 112 h)
+  print_20 z h = or_pass _ _ z ∙ rw (ne_eqb n 112 h)
 
-  pub print-lines : (edition_refusal terminal c).number ≡ 0 → n ≡ 112 → print_refusal fund c n ≡ lines_refusal fund c
+  pub print_lines : (edition_refusal terminal c).number ≡ 0 → n ≡ 112 → print_refusal fund c n ≡ lines_refusal fund c
   unfolding print_refusal gate
-  print-lines z h = or_pass _ _ z ∙ rw (eq-eqb n 112 h)
+  print_lines z h = or_pass _ _ z ∙ rw (eq-eqb n 112 h)
 
 -- a front that is not refused
 pub record Free (fund : Bool) (c : Content) (n : ℕ) : Type 0 where

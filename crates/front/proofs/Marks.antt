@@ -19,17 +19,17 @@ use Rattle.front.specs.Refusing.{other_rows, underscored}
 use Rattle.front.proofs.Spaced.{item}
 
 module _ (b : ℕ) (v : List ℕ) (i : ℕ) where
-  pub mark-here : i < length v → get_or v i 0 ≡ b → among b (drop i v) ≡ true
+  pub mark_here : i < length v → get_or v i 0 ≡ b → among b (drop i v) ≡ true
   unfolding among
-  mark-here h e = rw (drop-cons v i 0 h, eq-eqb b (get_or v i 0) (sym e))
+  mark_here h e = rw (drop-cons v i 0 h, eq-eqb b (get_or v i 0) (sym e))
 
-  pub mark-next : i < length v → (get_or v i 0 ≡ b → ⊥) → among b (drop i v) ≡ among b (drop (i + 1) v)
+  pub mark_next : i < length v → (get_or v i 0 ≡ b → ⊥) → among b (drop i v) ≡ among b (drop (i + 1) v)
   unfolding among
-  mark-next h e = rw (drop-cons v i 0 h, ne_eqb b (get_or v i 0) (λ z. e (sym z)), add-one)
+  mark_next h e = rw (drop-cons v i 0 h, ne_eqb b (get_or v i 0) (λ z. e (sym z)), add-one)
 
-  pub mark-end : i ≡ length v → among b (drop i v) ≡ false
+  pub mark_end : i ≡ length v → among b (drop i v) ≡ false
   unfolding among
-  mark-end e = rw (e, drop-length)
+  mark_end e = rw (e, drop-length)
 
 -- ---- what a record claims past its bytes is 0, and no underscore
 none_in_zeros : (m n : ℕ) → among 0x5F (take m (replicate n 0)) ≡ false
@@ -70,8 +70,8 @@ module _ (r : Record) (i : ℕ) (h : i < 10) where
   unfolding underscored
   rows_cons = rw (drop-cons all_rows i 0 h, value_at_lem r (get_or all_rows i 0), add-one)
 
-  pub rows-here : true ≡ among 0x5F (item r (get_or all_rows i 0)) → underscored (content_of r) (drop i all_rows) ≡ true
-  rows-here e = rw (rows_cons, ← e)
+  pub rows_here : true ≡ among 0x5F (item r (get_or all_rows i 0)) → underscored (content_of r) (drop i all_rows) ≡ true
+  rows_here e = rw (rows_cons, ← e)
 
   pub rows_next : false ≡ among 0x5F (item r (get_or all_rows i 0)) → underscored (content_of r) (drop i all_rows) ≡ underscored (content_of r) (drop (i + 1) all_rows)
   rows_next e = rw (rows_cons, ← e)

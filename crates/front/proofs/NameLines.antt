@@ -13,8 +13,8 @@ use Rattle.ground.proofs.Puts.{put_then}
 use Rattle.card.specs.declared.Record.{Record}
 use Rattle.card.specs.Content.{Content, content_of}
 use Rattle.front.specs.Lines.{value, spaced, forenames, first_of, second_of, field, name_line}
-use Rattle.front.specs.Placing.{behind, placed, field_put, names_put}
-use Rattle.front.proofs.Spaced.{item, field_long, spaced_behind, spaced_long, behind_more, one_line, two-lines, names_of, name_lines_of}
+use Rattle.front.specs.Placing.{behind, placed, field_put_lem, names_put}
+use Rattle.front.proofs.Spaced.{item, field_long, spaced_behind, spaced_long, behind_more, one_line, two_lines, names_of, name_lines_of}
 use Rattle.front.proofs.Placed.{placed_long, fill_then, field_then, nothing, none_put, put_back}
 use Rattle.front.proofs.Long.{first_short}
 
@@ -33,9 +33,9 @@ module _ (r : Record) (room : List ℕ) (at : ℕ) (short : length (forenames (c
   all-long : length (item r 6) + length (behind (length (item r 6)) (item r 7)) + length (behind (length (spaced (item r 6) (item r 7))) (item r 8)) ≤ 28
   all-long = omega (arith, fit, spaced_long (item r 6) (item r 7), spaced_long (spaced (item r 6) (item r 7)) (item r 8))
 
-  pub fore-one : (length (item r 6) ≤ 28) × (at + length (behind 0 (item r 6)) ≤ length room)
+  pub fore_one : (length (item r 6) ≤ 28) × (at + length (behind 0 (item r 6)) ≤ length room)
   unfolding behind
-  fore-one = (omega (arith, all-long), omega (arith, all-long))
+  fore_one = (omega (arith, all-long), omega (arith, all-long))
 
   module _ {first : List ℕ} {p : ℕ} (one : Put room at (behind 0 (item r 6)) first p) where
     one-long : p - at ≡ length (item r 6)
@@ -45,9 +45,9 @@ module _ (r : Record) (room : List ℕ) (at : ℕ) (short : length (forenames (c
     one_size : length first ≡ length room
     one_size = ap length one.stored ∙ length-sets room at (behind 0 (item r 6))
 
-    pub fore-two : (length (item r 7) ≤ 28) × (p + length (behind (p - at) (item r 7)) ≤ length first)
+    pub fore_two : (length (item r 7) ≤ 28) × (p + length (behind (p - at) (item r 7)) ≤ length first)
     unfolding behind
-    fore-two =
+    fore_two =
         let more = behind_more (length (item r 6)) (item r 7) in
         rw one-long (omega (arith, all-long), omega (arith, all-long, one.place, one_size))
 
@@ -58,13 +58,13 @@ module _ (r : Record) (room : List ℕ) (at : ℕ) (short : length (forenames (c
       two_size : length second ≡ length room
       two_size = ap length two.stored ∙ length-sets first p (behind (p - at) (item r 7)) ∙ one_size
 
-      pub fore-three : (length (item r 8) ≤ 28) × (q + length (behind (q - at) (item r 8)) ≤ length second)
-      fore-three =
+      pub fore_three : (length (item r 8) ≤ 28) × (q + length (behind (q - at) (item r 8)) ≤ length second)
+      fore_three =
           let more = behind_more (length (spaced (item r 6) (item r 7))) (item r 8) in
           rw two-long (omega (arith, all-long), omega (arith, all-long, two-long, two_size, one.place, two.place, spaced_long (item r 6) (item r 7)))
 
-      pub fore-all : {third : List ℕ} {s : ℕ} → Put second q (behind (q - at) (item r 8)) third s → Put room at (forenames (content_of r)) third s
-      fore-all three =
+      pub fore_all : {third : List ℕ} {s : ℕ} → Put second q (behind (q - at) (item r 8)) third s → Put room at (forenames (content_of r)) third s
+      fore_all three =
           let title : behind 0 (item r 6) ≡ item r 6 = behind_none (item r 6) in
           let joint : (behind 0 (item r 6) ++ behind (p - at) (item r 7)) ++ behind (q - at) (item r 8) ≡ forenames (content_of r) =
           rw (title, one-long, two-long, names_of r, spaced_behind (spaced (item r 6) (item r 7)) (item r 8), ← spaced_behind (item r 6) (item r 7)) in
@@ -78,33 +78,33 @@ module _ (r : Record) (room : List ℕ) (at : ℕ) (wide : at + 56 ≤ length ro
   names-size : length first ≡ length room
   names-size = ap length names.stored ∙ length-sets room at (forenames (content_of r))
 
-  pub family-held : length (spaced (forenames (content_of r)) (item r 9)) ≤ 28 → (length (item r 9) ≤ 28) × (p + length (behind (p - at) (item r 9)) ≤ length first)
-  family-held h =
+  pub family_held : length (spaced (forenames (content_of r)) (item r 9)) ≤ 28 → (length (item r 9) ≤ 28) × (p + length (behind (p - at) (item r 9)) ≤ length first)
+  family_held h =
       let long = spaced_long (forenames (content_of r)) (item r 9) in
       let more = behind_more (length (forenames (content_of r))) (item r 9) in
       rw names_long (omega arith, omega (arith, names.place, names-size))
 
-  pub family-end : {second : List ℕ} {q : ℕ} → length (spaced (forenames (content_of r)) (item r 9)) ≤ 28 → Put first p (behind (p - at) (item r 9)) second q → q ≤ at + 56
-  family-end h two = omega (arith, names.place, (rw names_long at two.place), spaced_long (forenames (content_of r)) (item r 9))
+  pub family_end : {second : List ℕ} {q : ℕ} → length (spaced (forenames (content_of r)) (item r 9)) ≤ 28 → Put first p (behind (p - at) (item r 9)) second q → q ≤ at + 56
+  family_end h two = omega (arith, names.place, (rw names_long at two.place), spaced_long (forenames (content_of r)) (item r 9))
 
-  pub one-there : {second third : List ℕ} {q s : ℕ} → length (spaced (forenames (content_of r)) (item r 9)) ≤ 28 → Put first p (behind (p - at) (item r 9)) second q
+  pub one_there : {second third : List ℕ} {q s : ℕ} → length (spaced (forenames (content_of r)) (item r 9)) ≤ 28 → Put first p (behind (p - at) (item r 9)) second q
       → s ≡ behind_put second q (replicate (at + 56 - q) 0x20) → third ≡ room_with second q (replicate (at + 56 - q) 0x20) → Put room at (lines_put r) third s
-  one-there {q = q} h two e f =
+  one_there {q = q} h two e f =
       let joint : forenames (content_of r) ++ behind (p - at) (item r 9) ≡ spaced (forenames (content_of r)) (item r 9) = rw (names_long, spaced_behind (forenames (content_of r)) (item r 9)) in
       let both = rw joint at (put_then names two) in
       let left : at + 56 - q + length (spaced (forenames (content_of r)) (item r 9)) ≡ 56 = omega (arith, both.place) in
       let lines = one_line (forenames (content_of r)) (item r 9) (le-leb _ 28 h) (at + 56 - q) left ∙ name_lines_of r in
       rw lines at (fill_then (at + 56 - q) both e f (omega arith))
 
-  pub two-there : {second third : List ℕ} {q s : ℕ} → length (forenames (content_of r)) ≤ 28 → 28 < length (spaced (forenames (content_of r)) (item r 9))
+  pub two_there : {second third : List ℕ} {q s : ℕ} → length (forenames (content_of r)) ≤ 28 → 28 < length (spaced (forenames (content_of r)) (item r 9))
       → q ≡ behind_put first p (replicate (at + 28 - p) 0x20) → second ≡ room_with first p (replicate (at + 28 - p) 0x20)
-      → s ≡ behind_put second q (field_put 28 (item r 9)) → third ≡ room_with second q (field_put 28 (item r 9)) → Put room at (lines_put r) third s
-  two-there k h e f g i =
+      → s ≡ behind_put second q (field_put_lem 28 (item r 9)) → third ≡ room_with second q (field_put_lem 28 (item r 9)) → Put room at (lines_put r) third s
+  two_there k h e f g i =
       let left : at + 28 - p ≡ 28 - length (forenames (content_of r)) = omega (arith, names.place) in
       let line = fill_then (at + 28 - p) names e f (omega arith) in
       let long = length-append (forenames (content_of r)) (replicate (at + 28 - p) 0x20) in
       let full = length-replicate {A = ℕ} (at + 28 - p) 0x20 in
-      let lines = two-lines (forenames (content_of r)) (item r 9) (lt-leb _ 28 h) (at + 28 - p) left ∙ name_lines_of r in
+      let lines = two_lines (forenames (content_of r)) (item r 9) (lt-leb _ 28 h) (at + 28 - p) left ∙ name_lines_of r in
       rw lines at (field_then 28 (item r 9) line g i (omega arith) (omega arith))
 
 -- ---- the whole, and nothing

@@ -18,7 +18,7 @@ use Rattle.front.specs.Refusing.{other_rows, printed_rows, underscored}
 use Rattle.front.specs.Placing.{Fits}
 use Rattle.front.specs.Promises.{printable, all_of, Lines28}
 use Rattle.front.proofs.Spaced.{field_long}
-use Rattle.front.proofs.Long.{name-long, family-long, number-long}
+use Rattle.front.proofs.Long.{name_long, family_long, number_long}
 use Rattle.front.proofs.Taken.{taken}
 use Rattle.front.proofs.Gates.{free}
 use Rattle.front.proofs.Invisible.{among_all, or_right}
@@ -27,8 +27,8 @@ use Rattle.front.proofs.Invisible.{among_all, or_right}
 module _ (c : Content) (f : Fits c) where
   lines_long : (fund : Bool) → map length (lines_of fund c) ≡ 28 ∷ 28 ∷ 28 ∷ 28 ∷ []
   unfolding lines_of
-  lines_long true = rw (name-long c f, family-long c f, field_long 28 (value c 0) (f.short 0 (omega arith)), number-long c f)
-  lines_long false = rw (name-long c f, family-long c f, field_long 28 [] (omega arith), number-long c f)
+  lines_long true = rw (name_long c f, family_long c f, field_long 28 (value c 0) (f.short 0 (omega arith)), number_long c f)
+  lines_long false = rw (name_long c f, family_long c f, field_long 28 [] (omega arith), number_long c f)
 
 -- ---- lists whose bytes all pass a test
 both : (a b : Bool) → a ≡ true → b ≡ true → (a && b) ≡ true

@@ -79,10 +79,10 @@ module _ (names family : List ℕ) where
       (ap (λ (j : ℕ). spaced names family ++ blanks j) sum ∙ ap (λ (l : List ℕ). spaced names family ++ l) (sym (replicate-append-replicate i 28 0x20))
       ∙ sym (append_assoc (spaced names family) (blanks i) (blanks 28)))
 
-  pub two-lines : on_one_line names family ≡ false → (k : ℕ) → k ≡ 28 - length names
+  pub two_lines : on_one_line names family ≡ false → (k : ℕ) → k ≡ 28 - length names
       → (names ++ blanks k) ++ placed 28 family ≡ field 28 (first_of names family) ++ placed 28 (second_of names family)
   unfolding first_of second_of field
-  two-lines e k h = rw (e, h)
+  two_lines e k h = rw (e, h)
 
 -- ---- what the rows of a record are
 abbrev pub item : Record → ℕ → List ℕ

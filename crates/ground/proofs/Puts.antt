@@ -38,24 +38,24 @@ put_then {room} {at} {bytes} {more} p q = record {
 -- ---- what is left to put at p makes `whole`, which was to be put at the start: a loop that puts piece after piece
 pub record Left (room₀ : List ℕ) (at : ℕ) (whole : List ℕ) (room : List ℕ) (p : ℕ) (rest : List ℕ) : Type 0 where
   pub where_to : p + length rest ≡ at + length whole
-  pub comes-to : sets room p rest ≡ sets room₀ at whole
+  pub comes_to : sets room p rest ≡ sets room₀ at whole
 
 pub left_start : (room : List ℕ) (at : ℕ) (whole : List ℕ) → Left room at whole room at whole
-left_start room at whole = record { where_to = refl; comes-to = refl }
+left_start room at whole = record { where_to = refl; comes_to = refl }
 
 module _ {room₀ : List ℕ} {at : ℕ} {whole room : List ℕ} {p : ℕ} {rest : List ℕ} (l : Left room₀ at whole room p rest) where
   -- the next piece has its room
-  pub left-fits : (piece more : List ℕ) → rest ≡ piece ++ more → at + length whole ≤ length room → p + length piece ≤ length room
-  left-fits piece more e h = omega (arith, l.where_to, ap length e ∙ length-append piece more)
+  pub left_fits : (piece more : List ℕ) → rest ≡ piece ++ more → at + length whole ≤ length room → p + length piece ≤ length room
+  left_fits piece more e h = omega (arith, l.where_to, ap length e ∙ length-append piece more)
 
-  pub left-next : (piece more : List ℕ) → rest ≡ piece ++ more → {room₁ : List ℕ} {q : ℕ} → Put room p piece room₁ q → Left room₀ at whole room₁ q more
-  left-next piece more e put = record {
+  pub left_next : (piece more : List ℕ) → rest ≡ piece ++ more → {room₁ : List ℕ} {q : ℕ} → Put room p piece room₁ q → Left room₀ at whole room₁ q more
+  left_next piece more e put = record {
     where_to = omega (arith, l.where_to, ap length e ∙ length-append piece more, put.place);
-    comes-to = sets_then room piece p more put.stored put.place ∙ ap (sets room p) (sym e) ∙ l.comes-to;
+    comes_to = sets_then room piece p more put.stored put.place ∙ ap (sets room p) (sym e) ∙ l.comes_to;
   }
 
   pub left_end : rest ≡ [] → Put room₀ at whole room p
-  left_end e = record { stored = rw e at l.comes-to; place = omega (arith, l.where_to, ap length e) }
+  left_end e = record { stored = rw e at l.comes_to; place = omega (arith, l.where_to, ap length e) }
 
 -- ---- bytes that fill a room
 pub put_whole : (room bytes : List ℕ) {after : List ℕ} → length bytes ≡ length room → after ≡ room_with room 0 bytes → after ≡ bytes

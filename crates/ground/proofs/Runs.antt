@@ -12,7 +12,7 @@ use lib.Dec.{eqb}
 use lib.ListN.{length, get_or, take, drop, replicate, length-replicate, get_or-replicate, length-drop}
 use lib.Seq.{drop-drop, take_all, ext_get_or}
 use Rattle.ground.specs.Lists.{agree, same_list}
-use Rattle.ground.proofs.Lists.{true_false, agree-pass, agree-stop, agree_end, agree_same, same_self, same_equal}
+use Rattle.ground.proofs.Lists.{true_false, agree_pass, agree_stop, agree_end, agree_same, same_self, same_equal}
 
 -- what lies behind the length of the first list is not looked at
 pub agree_cut : (n : ℕ) (xs zs : List ℕ) → length xs ≤ n → agree xs (take n zs) ≡ agree xs zs
@@ -55,36 +55,36 @@ agree_over (x ∷ xs) ys (z ∷ zs) h = go (eqb x z) h (agree_over xs ys zs)
 
 -- the same by address, from `at` on
 module _ (s : List ℕ) (at : ℕ) (xs ys : List ℕ) where
-  pub run-stops : agree xs (drop at s) < length xs → at + agree (xs ++ ys) (drop at s) ≡ at + agree xs (drop at s)
-  run-stops h = ap (λ (n : ℕ). at + n) (agree_short xs ys (drop at s) h)
+  pub run_stops : agree xs (drop at s) < length xs → at + agree (xs ++ ys) (drop at s) ≡ at + agree xs (drop at s)
+  run_stops h = ap (λ (n : ℕ). at + n) (agree_short xs ys (drop at s) h)
 
-  pub run-passes : length xs ≤ agree xs (drop at s) → at + agree (xs ++ ys) (drop at s) ≡ at + length xs + agree ys (drop (at + length xs) s)
-  run-passes h = rw (agree_over xs ys (drop at s) h, drop-drop) (omega arith)
+  pub run_passes : length xs ≤ agree xs (drop at s) → at + agree (xs ++ ys) (drop at s) ≡ at + length xs + agree ys (drop (at + length xs) s)
+  run_passes h = rw (agree_over xs ys (drop at s) h, drop-drop) (omega arith)
 
 -- .. where the first part was counted in a part of the bytes
 module _ (s : List ℕ) (at k : ℕ) (xs ys : List ℕ) {n : ℕ} (counted : n ≡ agree xs (take k (drop at s))) (within : length xs ≤ k) where
-  pub part-stops : n < length xs → at + n ≡ at + agree (xs ++ ys) (drop at s)
-  part-stops h =
+  pub part_stops : n < length xs → at + n ≡ at + agree (xs ++ ys) (drop at s)
+  part_stops h =
       let e = counted ∙ agree_cut k xs (drop at s) within in
-      ap (λ (m : ℕ). at + m) e ∙ sym (run-stops s at xs ys (omega arith))
+      ap (λ (m : ℕ). at + m) e ∙ sym (run_stops s at xs ys (omega arith))
 
-  pub part-passes : length xs ≤ n → at + agree (xs ++ ys) (drop at s) ≡ at + length xs + agree ys (drop (at + length xs) s)
-  part-passes h =
+  pub part_passes : length xs ≤ n → at + agree (xs ++ ys) (drop at s) ≡ at + length xs + agree ys (drop (at + length xs) s)
+  part_passes h =
       let e = counted ∙ agree_cut k xs (drop at s) within in
-      run-passes s at xs ys (omega arith)
+      run_passes s at xs ys (omega arith)
 
 -- ---- a run of one byte, b, over the whole of a part
 module _ (part : List ℕ) (b i : ℕ) where
-  pub run-pass : i < length part → get_or part i 0 ≡ b
+  pub run_pass : i < length part → get_or part i 0 ≡ b
       → i + agree (drop i (replicate (length part) b)) (drop i part) ≡ i + 1 + agree (drop (i + 1) (replicate (length part) b)) (drop (i + 1) part)
-  run-pass h e =
+  run_pass h e =
       let l = length-replicate (length part) b in
-      agree-pass (replicate (length part) b) part i (omega arith) h (get_or-replicate (length part) i b 0 h ∙ sym e)
+      agree_pass (replicate (length part) b) part i (omega arith) h (get_or-replicate (length part) i b 0 h ∙ sym e)
 
-  pub run-stop : i < length part → (get_or part i 0 ≡ b → ⊥) → i + agree (drop i (replicate (length part) b)) (drop i part) ≡ i
-  run-stop h e =
+  pub run_stop : i < length part → (get_or part i 0 ≡ b → ⊥) → i + agree (drop i (replicate (length part) b)) (drop i part) ≡ i
+  run_stop h e =
       let l = length-replicate (length part) b in
-      agree-stop (replicate (length part) b) part i (omega arith) h (λ q. e (sym q ∙ get_or-replicate (length part) i b 0 h))
+      agree_stop (replicate (length part) b) part i (omega arith) h (λ q. e (sym q ∙ get_or-replicate (length part) i b 0 h))
 
   pub run_end : i ≡ length part → i + agree (drop i (replicate (length part) b)) (drop i part) ≡ i
   run_end h =

@@ -81,9 +81,9 @@ module _ (e : Edition) (s cmd : List ℕ) where
       go true true true h = range-reply s (extent e s (eqb-true (reading e s).refusal.number 0 h)) (offset_of cmd) (count_of cmd)
 
   -- the answer put at the start of a room
-  pub room-is : (a : Asked) → a ≡ asked_of e s cmd → (room after : List ℕ) (behind : ℕ) → Put room 0 (reply_of s a) after behind → length (reply_of s a) ≤ length room
+  pub room_is : (a : Asked) → a ≡ asked_of e s cmd → (room after : List ℕ) (behind : ℕ) → Put room 0 (reply_of s a) after behind → length (reply_of s a) ≤ length room
       → (behind ≡ length (reply e s cmd)) × (after ≡ reply e s cmd ++ drop (length (reply e s cmd)) room)
-  room-is a is room after behind put fits =
+  room_is a is room after behind put fits =
       let same : reply_of s a ≡ reply e s cmd = ap (reply_of s) is ∙ reply-is in
       let w : Put room 0 (reply e s cmd) after behind = rw same at put in
       (w.place ∙ zero-add _, w.stored ∙ sets-eq (reply e s cmd) room 0 (rw zero-add (rw same at fits)) ∙ ap (λ (k : ℕ). reply e s cmd ++ drop k room) (zero-add (length (reply e s cmd))))
@@ -96,25 +96,25 @@ reply_long s a h =
 
 -- ---- what is asked, by the pieces
 module _ (e : Edition) (s cmd : List ℕ) (p : Command) (parsed : p ≡ command_of cmd) where
-  pub asked-unfit : (p.status ≡ 0 → ⊥) → declined p.status ≡ asked_of e s cmd
+  pub asked_unfit : (p.status ≡ 0 → ⊥) → declined p.status ≡ asked_of e s cmd
   unfolding asked_of gate
-  asked-unfit h = rw (← parsed, ne_eqb p.status 0 h)
+  asked_unfit h = rw (← parsed, ne_eqb p.status 0 h)
 
   module _ (fit : p.status ≡ 0) (t : Places) (is : t ≡ places e s) where
     number : t.refusal.number ≡ (reading e s).refusal.number
     number = ap (λ (x : Places). x.refusal.number) is ∙ ap (λ (x : Refusal). x.number) (same_refusal e s)
 
-    pub asked-refused : (t.refusal.number ≡ 0 → ⊥) → declined 0x69 ≡ asked_of e s cmd
+    pub asked_refused : (t.refusal.number ≡ 0 → ⊥) → declined 0x69 ≡ asked_of e s cmd
     unfolding asked_of gate
-    asked-refused h = rw (← parsed, eq-eqb p.status 0 fit, ← number, ne_eqb t.refusal.number 0 h)
+    asked_refused h = rw (← parsed, eq-eqb p.status 0 fit, ← number, ne_eqb t.refusal.number 0 h)
 
     module _ (accepted : t.refusal.number ≡ 0) (front : Front) (ends : front ≡ front_of none s) where
       end : front.end ≡ end_of s
       end = end_is e s (sym number ∙ accepted) front ends
 
-      pub asked-range : range_of p.offset p.count front.end ≡ asked_of e s cmd
+      pub asked_range : range_of p.offset p.count front.end ≡ asked_of e s cmd
       unfolding asked_of gate
-      asked-range = rw (end, ← parsed, eq-eqb p.status 0 fit, ← number, eq-eqb t.refusal.number 0 accepted)
+      asked_range = rw (end, ← parsed, eq-eqb p.status 0 fit, ← number, eq-eqb t.refusal.number 0 accepted)
 
-      pub asked-inside : (range_of p.offset p.count front.end).start + (range_of p.offset p.count front.end).count ≤ length s
-      asked-inside = rw end (range_inside s (extent e s (sym number ∙ accepted)) p.offset p.count)
+      pub asked_inside : (range_of p.offset p.count front.end).start + (range_of p.offset p.count front.end).count ≤ length s
+      asked_inside = rw end (range_inside s (extent e s (sym number ∙ accepted)) p.offset p.count)

@@ -56,10 +56,10 @@ coding_start text room = record {
 }
 
 module _ {text room₀ room : List ℕ} {taken made begun at : ℕ} (l : Coding text room₀ room taken made begun at) (more : at < length text) where
-  pub coding-next : (byte_for begun (get_or text at 0) ≡ 0 → ⊥) → made < length room
+  pub coding_next : (byte_for begun (get_or text at 0) ≡ 0 → ⊥) → made < length room
       → Coding text room₀ (set room made (byte_for begun (get_or text at 0))) (at + 1) (made + 1) 0 (at + 1)
   unfolding code_from
-  coding-next some room_for =
+  coding_next some room_for =
       let x = get_or text at 0 in
       let b = byte_for begun x in
       let step : code_from begun (drop at text) ≡ b ∷ code_from 0 (drop (at + 1) text) = rw (add-one, drop-cons text at 0 more, ne_eqb (byte_for begun x) 0 some) in
@@ -83,9 +83,9 @@ module _ {text room₀ room : List ℕ} {taken made begun at : ℕ} (l : Coding 
       copied : (s : List ℕ) (i : ℕ) → i < length s → set (sets room₀ 0 (take i s)) i (get_or s i 0) ≡ sets room₀ 0 (take (i + 1) s)
       copied s i h = let z : 0 + i ≡ i = omega arith in rw z at (sets_copy room₀ 0 s i h)
 
-  pub coding-begun : byte_for begun (get_or text at 0) ≡ 0 → (eqb begun 0 && is_first (get_or text at 0)) ≡ true → Coding text room₀ room taken made (get_or text at 0) (at + 1)
+  pub coding_begun : byte_for begun (get_or text at 0) ≡ 0 → (eqb begun 0 && is_first (get_or text at 0)) ≡ true → Coding text room₀ room taken made (get_or text at 0) (at + 1)
   unfolding code_from
-  coding-begun none is =
+  coding_begun none is =
       let x = get_or text at 0 in
       let zero-begun : begun ≡ 0 = eqb-true begun 0 (and_left (eqb begun 0) (is_first x) is) in
       let first : is_first x ≡ true = and_right (eqb begun 0) (is_first x) is in
@@ -115,9 +115,9 @@ module _ {text room₀ room : List ℕ} {taken made begun at : ℕ} (l : Coding 
           go true z = absurd (true_false f (rw (eqb-true x 0 z)))
           go false z = omega arith
 
-  pub coding-stop : byte_for begun (get_or text at 0) ≡ 0 → (eqb begun 0 && is_first (get_or text at 0)) ≡ false → code_from begun (drop at text) ≡ []
+  pub coding_stop : byte_for begun (get_or text at 0) ≡ 0 → (eqb begun 0 && is_first (get_or text at 0)) ≡ false → code_from begun (drop at text) ≡ []
   unfolding code_from
-  coding-stop none not-it = rw (drop-cons text at 0 more, none, not-it)
+  coding_stop none not-it = rw (drop-cons text at 0 more, none, not-it)
 
 pub code_end : (text : List ℕ) (begun at : ℕ) → length text ≤ at → code_from begun (drop at text) ≡ []
 unfolding code_from
@@ -125,17 +125,17 @@ code_end text begun at h = rw (drop_of_length-le text h)
 
 module _ {text room₀ room : List ℕ} {taken made begun at : ℕ} (l : Coding text room₀ room taken made begun at) where
   -- the answer, where it stops with the room, and where nothing is left
-  pub coding-answer : take (length room₀) (code text) ≡ take made (code text)
+  pub coding_answer : take (length room₀) (code text) ≡ take made (code text)
       → (◌≡◌ {A = Turned} (record { taken = taken; made = made }) (coded_answer room₀ text)) × (room ≡ sets room₀ 0 (take (length room₀) (code text)))
-  coding-answer e =
+  coding_answer e =
       let count : made ≡ length (take made (code text)) = sym (length-take-le made (code text) l.have) in
       (rw (e, ← count, ← l.size), rw e l.stored)
 
-  pub coding-full : length room ≤ made → take (length room₀) (code text) ≡ take made (code text)
-  coding-full h = let e : length room₀ ≡ made = omega (arith, l.same, l.fits) in rw e
+  pub coding_full : length room ≤ made → take (length room₀) (code text) ≡ take made (code text)
+  coding_full h = let e : length room₀ ≡ made = omega (arith, l.same, l.fits) in rw e
 
-  pub coding-end : code_from begun (drop at text) ≡ [] → take (length room₀) (code text) ≡ take made (code text)
-  coding-end none =
+  pub coding_end : code_from begun (drop at text) ≡ [] → take (length room₀) (code text) ≡ take made (code text)
+  coding_end none =
       let e : length (code text) - made ≡ 0 = sym (length-drop made (code text)) ∙ ap length (l.left ∙ none) in
       let a : length (code text) ≤ made = omega arith in
       let b : length (code text) ≤ length room₀ = omega (arith, l.fits) in

@@ -33,17 +33,17 @@ utf8_more bs i h = rw (add-one, take-suc bs i 0 h, utf8_append, utf8_one)
 
 -- ---- what was put, by the place behind it
 module _ (room : List ℕ) (at : ℕ) (bytes : List ℕ) {behind : ℕ} (e : behind ≡ behind_put room at bytes) where
-  pub not-put : behind ≡ at → 0 < length bytes → length room < at + length bytes
+  pub not_put : behind ≡ at → 0 < length bytes → length room < at + length bytes
   unfolding behind_put
-  not-put same some = go (leb (at + length bytes) (length room)) refl e
+  not_put same some = go (leb (at + length bytes) (length room)) refl e
     where
       go : (q : Bool) → leb (at + length bytes) (length room) ≡ q → behind ≡ cond q (at + length bytes) at → length room < at + length bytes
       go true t f = absurd (omega arith)
       go false t f = omega (arith, leb-false (at + length bytes) (length room) t)
 
-  pub was-put : (behind ≡ at → ⊥) → at + length bytes ≤ length room
+  pub was_put : (behind ≡ at → ⊥) → at + length bytes ≤ length room
   unfolding behind_put
-  was-put moved = go (leb (at + length bytes) (length room)) refl e
+  was_put moved = go (leb (at + length bytes) (length room)) refl e
     where
       go : (q : Bool) → leb (at + length bytes) (length room) ≡ q → behind ≡ cond q (at + length bytes) at → at + length bytes ≤ length room
       go true t f = leb-true _ _ t
@@ -69,11 +69,11 @@ spelling_start bytes room =
     record { within = omega arith; same = refl; fits = omega arith; size = refl; left = rw all; stored = refl }
 
 module _ {bytes room₀ room : List ℕ} {taken made : ℕ} (l : Spelling bytes room₀ room taken made) where
-  pub spelling-next : (more : taken < length bytes) → has_letter (get_or bytes taken 0) ≡ true
+  pub spelling_next : (more : taken < length bytes) → has_letter (get_or bytes taken 0) ≡ true
       → {after : List ℕ} {behind : ℕ} → made + length (letter (get_or bytes taken 0)) ≤ length room → Put room made (letter (get_or bytes taken 0)) after behind
       → Spelling bytes room₀ after (taken + 1) behind
   unfolding spelled
-  spelling-next more has {after} {behind} room_for put =
+  spelling_next more has {after} {behind} room_for put =
       let b = get_or bytes taken 0 in
       let grown : utf8 (take (taken + 1) bytes) ≡ utf8 (take taken bytes) ++ letter b = utf8_more bytes taken more in
       let enough : length (letter b) ≤ length room₀ - made = omega (arith, l.same) in
@@ -88,9 +88,9 @@ module _ {bytes room₀ room : List ℕ} {taken made : ℕ} (l : Spelling bytes 
         stored = put.stored ∙ sets_then room₀ (utf8 (take taken bytes)) 0 (letter b) l.stored (omega (arith, l.size)) ∙ ap (sets room₀ 0) (sym grown);
       }
 
-  pub spelling-end : spelled (length room₀ - made) (drop taken bytes) ≡ []
+  pub spelling_end : spelled (length room₀ - made) (drop taken bytes) ≡ []
       → (◌≡◌ {A = Turned} (record { taken = taken; made = made }) (spelled_answer room₀ bytes)) × (room ≡ sets room₀ 0 (utf8 (spelled (length room₀) bytes)))
-  spelling-end none =
+  spelling_end none =
       let whole : spelled (length room₀) bytes ≡ take taken bytes = l.left ∙ rw none (append-nil (take taken bytes)) in
       let count : taken ≡ length (take taken bytes) = sym (length-take-le taken bytes l.within) in
       (rw (whole, ← count, ← l.size), rw whole l.stored)
@@ -112,11 +112,11 @@ module _ {bytes room₀ room : List ℕ} {taken made : ℕ} (l : Spelling bytes 
       rw (drop-cons bytes taken 0 more, has, lt-leb (length (letter b)) (length room₀ - made) less)
 
   -- a put that did not move shows that there is no room
-  pub spelling-full : taken < length bytes → has_letter (get_or bytes taken 0) ≡ true
+  pub spelling_full : taken < length bytes → has_letter (get_or bytes taken 0) ≡ true
       → {after : List ℕ} {behind : ℕ} → behind ≡ behind_put room made (letter (get_or bytes taken 0)) → after ≡ room_with room made (letter (get_or bytes taken 0)) → behind ≡ made
       → (◌≡◌ {A = Turned} (record { taken = taken; made = made }) (spelled_answer room₀ bytes)) × (after ≡ sets room₀ 0 (utf8 (spelled (length room₀) bytes)))
-  spelling-full more has e f still =
+  spelling_full more has e f still =
       let b = get_or bytes taken 0 in
-      let small = not-put room made (letter b) e still (letter_some b) in
-      let end = spelling-end (no_room more has small) in
+      let small = not_put room made (letter b) e still (letter_some b) in
+      let end = spelling_end (no_room more has small) in
       (end.0, stays room made (letter b) f small ∙ end.1)

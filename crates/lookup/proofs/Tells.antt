@@ -95,21 +95,21 @@ module _ (e : Edition) (s : List ℕ) (n : LentEdition e) (h : Accepts library_r
           let b = get_or-eq_default t.lengths 0 {n = k} (omega (arith, m.lengths)) in
           omega (arith, a, b)
 
-  value-is : (k : ℕ) → get_or vs k [] ≡ part_at s t k
-  value-is k = value_at_lem s t.starts t.lengths k same_length ∙ sym (within_is s (get_or t.starts k 0) (get_or t.lengths k 0) (inside k))
+  value_is : (k : ℕ) → get_or vs k [] ≡ part_at s t k
+  value_is k = value_at_lem s t.starts t.lengths k same_length ∙ sym (within_is s (get_or t.starts k 0) (get_or t.lengths k 0) (inside k))
 
   long-is : (k : ℕ) → length (get_or vs k []) ≡ get_or t.lengths k 0
   long-is k =
       ap length (value_at_lem s t.starts t.lengths k same_length)
       ∙ length-take-le (get_or t.lengths k 0) (drop (get_or t.starts k 0) s) (omega (arith, inside k, length-drop (get_or t.starts k 0) s))
 
-  pub tell-alike : TellAlike s (reading e s).content t
+  pub tell_alike : TellAlike s (reading e s).content t
   unfolding content_at
-  tell-alike = record {
+  tell_alike = record {
     first = ap (λ (c : Content). c.first) content-is;
     free = ap (λ (c : Content). c.free) content-is;
     last = ap (λ (c : Content). c.last) content-is;
     many = ap (λ (c : Content). length c.values) content-is ∙ values_length s t.starts t.lengths same_length ∙ (sixteen e s n).starts;
-    value = λ k. ap (λ (c : Content). get_or c.values k []) content-is ∙ value-is k;
+    value = λ k. ap (λ (c : Content). get_or c.values k []) content-is ∙ value_is k;
     there = λ k. ap (λ (m : ℕ). not (eqb m 0)) (sym (ap (λ (c : Content). length (get_or c.values k [])) content-is ∙ long-is k));
   }

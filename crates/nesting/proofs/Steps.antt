@@ -21,9 +21,9 @@ module _ (is os : List Row) (k : ℕ) where
   unfolding nesting_from
   rows_pass h j r e z = rw (add-one, drop-cons is k no_row h, drop-cons os k no_row j, ← e, z)
 
-  pub rows-stop : k < length is → k < length os → (r : ℕ) → Clause r → eqb r 0 ≡ false → told r k ≡ nesting_from k (drop k is) (drop k os)
+  pub rows_stop : k < length is → k < length os → (r : ℕ) → Clause r → eqb r 0 ≡ false → told r k ≡ nesting_from k (drop k is) (drop k os)
   unfolding nesting_from
-  rows-stop h j r e z = rw (drop-cons is k no_row h, drop-cons os k no_row j, ← e, z)
+  rows_stop h j r e z = rw (drop-cons is k no_row h, drop-cons os k no_row j, ← e, z)
 
   pub rows_end : k ≡ length is → k ≡ length os → nesting_from k (drop k is) (drop k os) ≡ told 0 17
   unfolding nesting_from

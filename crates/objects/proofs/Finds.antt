@@ -119,35 +119,35 @@ met_by kinds r ts at l e = rw e (ap (met_of at) (look_by_lem r ts at l))
 
 -- ---- the object that stands at `at`, where l is left behind its tag
 module _ (kinds : List ℕ) (k at : ℕ) (r : Row) where
-  pub found-cut : (l : List ℕ) → length l ≡ 0 → object_by kinds (entry_at k r) at l ≡ wrong (refuse 8 at (tag_of k))
+  pub found_cut : (l : List ℕ) → length l ≡ 0 → object_by kinds (entry_at k r) at l ≡ wrong (refuse 8 at (tag_of k))
   unfolding object_by
-  found-cut [] e = refl
-  found-cut (n ∷ l) e = absurd (omega arith)
+  found_cut [] e = refl
+  found_cut (n ∷ l) e = absurd (omega arith)
 
-  pub found-unlisted : (l : List ℕ) → 0 < length l → permitted r.lengths (get_or l 0 0) ≡ false
+  pub found_unlisted : (l : List ℕ) → 0 < length l → permitted r.lengths (get_or l 0 0) ≡ false
       → object_by kinds (entry_at k r) at l ≡ wrong (refuse_length (at + 1) (tag_of k) r.lengths)
   unfolding object_by
-  found-unlisted [] h b = absurd (not-suc-le-zero h)
-  found-unlisted (n ∷ l) h b = rw b
+  found_unlisted [] h b = absurd (not-suc-le-zero h)
+  found_unlisted (n ∷ l) h b = rw b
 
-  pub found-overlong : (l : List ℕ) → 0 < length l → permitted r.lengths (get_or l 0 0) ≡ true → length l < 1 + get_or l 0 0
+  pub found_overlong : (l : List ℕ) → 0 < length l → permitted r.lengths (get_or l 0 0) ≡ true → length l < 1 + get_or l 0 0
       → object_by kinds (entry_at k r) at l ≡ wrong (refuse 8 at (tag_of k))
   unfolding object_by
-  found-overlong [] h b c = absurd (not-suc-le-zero h)
-  found-overlong (n ∷ l) h b c = rw (b, lt-leb n (length l) (omega arith))
+  found_overlong [] h b c = absurd (not-suc-le-zero h)
+  found_overlong (n ∷ l) h b c = rw (b, lt-leb n (length l) (omega arith))
 
-  pub found-weighed : (l : List ℕ) → 0 < length l → permitted r.lengths (get_or l 0 0) ≡ true → 1 + get_or l 0 0 ≤ length l
+  pub found_weighed : (l : List ℕ) → 0 < length l → permitted r.lengths (get_or l 0 0) ≡ true → 1 + get_or l 0 0 ≤ length l
       → object_by kinds (entry_at k r) at l
       ≡ weighed (entry_at k r) (at + 2) (take (get_or l 0 0) (drop 1 l)) (drop (get_or l 0 0) (drop 1 l)) (judged_by kinds r.rule (take (get_or l 0 0) (drop 1 l)))
   unfolding object_by
-  found-weighed [] h b c = absurd (not-suc-le-zero h)
-  found-weighed (n ∷ l) h b c = rw (b, le-leb n (length l) (omega arith))
+  found_weighed [] h b c = absurd (not-suc-le-zero h)
+  found_weighed (n ∷ l) h b c = rw (b, le-leb n (length l) (omega arith))
 
-  pub weighed-found : (v rest : List ℕ) (d : Verdict) → found_of k at (weighed (entry_at k r) (at + 2) v rest d) ≡ valued k (at + 2) (length v) d
+  pub weighed_found : (v rest : List ℕ) (d : Verdict) → found_of k at (weighed (entry_at k r) (at + 2) v rest d) ≡ valued k (at + 2) (length v) d
   unfolding found_of weighed valued
-  weighed-found v rest Takes = refl
-  weighed-found v rest (Outside i) = refl
-  weighed-found v rest Breaks = refl
+  weighed_found v rest Takes = refl
+  weighed_found v rest (Outside i) = refl
+  weighed_found v rest Breaks = refl
 
   -- its value, or a refusal, which its number, place and tag tell whole
   pub data Stands (l : List ℕ) : Seen → Type 0 where
@@ -169,20 +169,20 @@ module _ (kinds : List ℕ) (k at : ℕ) (r : Row) where
       go true e true f Breaks = turned (refuse 10 (at + 2) (tag_of k)) refl (omega arith)
 
   -- ---- what the row finds
-  pub look-here : (ts l : List ℕ) → here k l ≡ true → look_by kinds (entry_at k r) ts at l ≡ object_by kinds (entry_at k r) at (drop 1 l)
+  pub look_here : (ts l : List ℕ) → here k l ≡ true → look_by kinds (entry_at k r) ts at l ≡ object_by kinds (entry_at k r) at (drop 1 l)
   unfolding look_by
-  look-here ts [] e = absurd (true_false e refl)
-  look-here ts (b ∷ l) e = rw e
+  look_here ts [] e = absurd (true_false e refl)
+  look_here ts (b ∷ l) e = rw e
 
-  pub look-passed : (ts l : List ℕ) → here k l ≡ false → r.required ≡ false → look_by kinds (entry_at k r) ts at l ≡ absent
+  pub look_passed : (ts l : List ℕ) → here k l ≡ false → r.required ≡ false → look_by kinds (entry_at k r) ts at l ≡ absent
   unfolding look_by passed
-  look-passed ts [] e q = rw q
-  look-passed ts (b ∷ l) e q = rw (e, q)
+  look_passed ts [] e q = rw q
+  look_passed ts (b ∷ l) e q = rw (e, q)
 
-  pub look-missing : (l : List ℕ) → here k l ≡ false → r.required ≡ true → look_by kinds (entry_at k r) (drop (suc k) tags) at l ≡ wrong (passed_over k at l)
+  pub look_missing : (l : List ℕ) → here k l ≡ false → r.required ≡ true → look_by kinds (entry_at k r) (drop (suc k) tags) at l ≡ wrong (passed_over k at l)
   unfolding look_by passed
-  look-missing [] e q = rw q
-  look-missing (b ∷ l) e q = rw (e, q)
+  look_missing [] e q = rw q
+  look_missing (b ∷ l) e q = rw (e, q)
 
   -- ---- what the answer of the object reader says of what stands there
   pub record Took (l : List ℕ) (start n : ℕ) (x : Seen) : Type 0 where
@@ -201,10 +201,10 @@ module _ (kinds : List ℕ) (k at : ℕ) (r : Row) where
       record { begins = sym begins; inside = omega arith; allowed = rw (← is) p; is = rw (← is) refl }
   took l x j start n (turned y f h) e = absurd (let z : ◌≡◌ {A = ℕ} 0 1 = cc in omega arith)
 
-  pub told-off : (l : List ℕ) (x : Seen) (a b c : ℕ) → Stands l x → found_of k at x ≡ Refused a b c → (x ≡ wrong (with_ends r.lengths a b c)) × (0 < (with_ends r.lengths a b c).number)
+  pub told_off : (l : List ℕ) (x : Seen) (a b c : ℕ) → Stands l x → found_of k at x ≡ Refused a b c → (x ≡ wrong (with_ends r.lengths a b c)) × (0 < (with_ends r.lengths a b c).number)
   unfolding found_of
-  told-off l x a b c (taken m p h) e = absurd (let z : ◌≡◌ {A = ℕ} 0 1 = cc in omega arith)
-  told-off l x a b c (turned y f h) e =
+  told_off l x a b c (taken m p h) e = absurd (let z : ◌≡◌ {A = ℕ} 0 1 = cc in omega arith)
+  told_off l x a b c (turned y f h) e =
       let na : y.number ≡ a = cc in
       let nb : y.place ≡ b = cc in
       let nc : y.tag ≡ c = cc in
@@ -212,28 +212,28 @@ module _ (kinds : List ℕ) (k at : ℕ) (r : Row) where
       rw same (refl, h)
 
   -- the answer is that of what stands there
-  pub answer-is : (l part : List ℕ) (f : Found) → part ≡ l → found_told f ≡ found_told (found_of k at (object_by kinds (entry_at k r) at part)) → found_of k at (object_by kinds (entry_at k r) at l) ≡ f
-  answer-is l part f e t = sym (told_apart f _ t ∙ ap (λ (x : List ℕ). found_of k at (object_by kinds (entry_at k r) at x)) e)
+  pub answer_is : (l part : List ℕ) (f : Found) → part ≡ l → found_told f ≡ found_told (found_of k at (object_by kinds (entry_at k r) at part)) → found_of k at (object_by kinds (entry_at k r) at l) ≡ f
+  answer_is l part f e t = sym (told_apart f _ t ∙ ap (λ (x : List ℕ). found_of k at (object_by kinds (entry_at k r) at x)) e)
 
   -- ---- what the row meets
   module _ (ts l : List ℕ) where
-    pub meets-there : (start n : ℕ) → here k l ≡ true → Took (drop 1 l) start n (object_by kinds (entry_at k r) at (drop 1 l)) → There start n ≡ met_of at (look_by kinds (entry_at k r) ts at l)
+    pub meets_there : (start n : ℕ) → here k l ≡ true → Took (drop 1 l) start n (object_by kinds (entry_at k r) at (drop 1 l)) → There start n ≡ met_of at (look_by kinds (entry_at k r) ts at l)
     unfolding met_of
-    meets-there start n h t =
+    meets_there start n h t =
         let long : length (take n (drop 1 (drop 1 l))) ≡ n = length-take-le n (drop 1 (drop 1 l)) (omega (arith, t.inside, length-drop 1 (drop 1 l))) in
-        rw (look-here ts l h, t.is, long, t.begins)
+        rw (look_here ts l h, t.is, long, t.begins)
 
-    pub meets-wrong : (x : Refusal) → here k l ≡ true → object_by kinds (entry_at k r) at (drop 1 l) ≡ wrong x → Wrong x ≡ met_of at (look_by kinds (entry_at k r) ts at l)
+    pub meets_wrong : (x : Refusal) → here k l ≡ true → object_by kinds (entry_at k r) at (drop 1 l) ≡ wrong x → Wrong x ≡ met_of at (look_by kinds (entry_at k r) ts at l)
     unfolding met_of
-    meets-wrong x h e = rw (look-here ts l h, e)
+    meets_wrong x h e = rw (look_here ts l h, e)
 
-    pub meets-absent : here k l ≡ false → r.required ≡ false → Absent ≡ met_of at (look_by kinds (entry_at k r) ts at l)
+    pub meets_absent : here k l ≡ false → r.required ≡ false → Absent ≡ met_of at (look_by kinds (entry_at k r) ts at l)
     unfolding met_of
-    meets-absent h q = rw (look-passed ts l h q)
+    meets_absent h q = rw (look_passed ts l h q)
 
-  pub meets-missing : (l : List ℕ) → here k l ≡ false → r.required ≡ true → Wrong (passed_over k at l) ≡ met_of at (look_by kinds (entry_at k r) (drop (suc k) tags) at l)
+  pub meets_missing : (l : List ℕ) → here k l ≡ false → r.required ≡ true → Wrong (passed_over k at l) ≡ met_of at (look_by kinds (entry_at k r) (drop (suc k) tags) at l)
   unfolding met_of
-  meets-missing l h q = rw (look-missing l h q)
+  meets_missing l h q = rw (look_missing l h q)
 
 -- ---- and what it has met
 pub met_absent : (at : ℕ) (x : Seen) → met_of at x ≡ Absent → x ≡ absent

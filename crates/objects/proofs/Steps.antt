@@ -138,9 +138,9 @@ module _ (t : List ℕ) (rows : List Row) (from k i : ℕ) (st ls : List ℕ) (s
   abbrev further : Seen → Walked
   further = onward (walk (entries (drop (suc k) tags) (drop (suc k) rows))) (from + i) (drop i t)
 
-  pub next-absent : seen ≡ absent → Sofar t rows from (suc k) i st ls
+  pub next_absent : seen ≡ absent → Sofar t rows from (suc k) i st ls
   unfolding onward
-  next-absent e = record {
+  next_absent e = record {
     vs = p.vs ++ ([] ∷ []);
     many = length-append p.vs ([] ∷ []) ∙ omega (arith, p.many);
     drawn = p.drawn ∙ sym (body_next k p.vs [] (omega arith) p.many ∙ omega arith);
@@ -177,8 +177,8 @@ module _ (t : List ℕ) (rows : List Row) (from k i : ℕ) (st ls : List ℕ) (s
         ∙ ap (push_all p.vs) (walk_row rows k (from + i) (drop i t) seventeen (omega arith) ∙ ap further e ∙ ap (λ (m : ℕ). push v (walk (entries (drop (suc k) tags) (drop (suc k) rows)) m (drop i' t))) place)
         ∙ push_all_lem p.vs v _
 
-    pub next-there : (start : ℕ) → k < 16 → length st ≡ 16 → length ls ≡ 16 → start ≡ from + i + 2 → Sofar t rows from (suc k) i' (set st k start) (set ls k n)
-    next-there start early hs hl begins = record {
+    pub next_there : (start : ℕ) → k < 16 → length st ≡ 16 → length ls ≡ 16 → start ≡ from + i + 2 → Sofar t rows from (suc k) i' (set st k start) (set ls k n)
+    next_there start early hs hl begins = record {
       vs = p.vs ++ (v ∷ []);
       many = there-many;
       drawn = there-drawn;

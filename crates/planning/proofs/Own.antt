@@ -15,7 +15,7 @@ use Rattle.demands.specs.Demands.{LentEdition}
 use Rattle.rewriting.specs.Plans.{step_to, address_of, byte_of, step, MayBe}
 use Rattle.rewriting.specs.Checking.{passes, plan_test}
 use Rattle.rewriting.proofs.Refused.{untagged}
-use Rattle.rewriting.proofs.Decided.{is_same, passes-out}
+use Rattle.rewriting.proofs.Decided.{is_same, passes_out}
 use Rattle.planning.specs.Planning.{change, changes, spoiled, rewritten, our_plan}
 use Rattle.planning.proofs.Changes.{none_same}
 
@@ -61,7 +61,7 @@ module _ (e : Edition) (lent : LentEdition e) (old new : List ℕ) where
           let rest : os ≡ ns = none_same (suc at) os ns (omega arith) none in
           let there : pre ++ (n ∷ os) ≡ new = rw rest w in
           let a : address_of (step_to at n) ≤ 255 = omega (arith, b 0) in
-          rw (stepped pre o n at os p (b 0), le-leb (address_of (step_to at n)) 255 a, there, passes-out e lent old new new (inr (inl refl))) (rw there at (on (omega arith)))
+          rw (stepped pre o n at os p (b 0), le-leb (address_of (step_to at n)) 255 a, there, passes_out e lent old new new (inr (inl refl))) (rw there at (on (omega arith)))
 
 -- ---- the bytes from `at` on are written, while the template has no tag
 abbrev NoTag : List ℕ → Type 0
@@ -87,7 +87,7 @@ module _ (e : Edition) (lent : LentEdition e) (old new q : List ℕ) where
       go on false f =
           let a : address_of (step_to at n) ≤ 255 = omega (arith, b 0) in
           let m : MayBe e old new (pre ++ (n ∷ (os ++ post))) = inr (inr (untagged e (pre ++ (n ∷ (os ++ post))) lent (z (n ∷ os) refl))) in
-          rw (stepped pre o n at (os ++ post) p (b 0), le-leb (address_of (step_to at n)) 255 a, passes-out e lent old new (pre ++ (n ∷ (os ++ post))) m) on
+          rw (stepped pre o n at (os ++ post) p (b 0), le-leb (address_of (step_to at n)) 255 a, passes_out e lent old new (pre ++ (n ∷ (os ++ post))) m) on
 
 front : (l : List ℕ) → length l ≡ 256 → length (take 30 l) ≡ 30
 front l n = length-take-le 30 l (omega arith)
@@ -113,7 +113,7 @@ module _ (e : Edition) (lent : LentEdition e) (old new : List ℕ) (p : length o
               stepped (take 30 new) t (get_or new 30 0) 30 (drop 31 new) (front new q) (b 30),
               halves new q,
               le-leb (address_of (step_to 30 (get_or new 30 0))) 255 a,
-              passes-out e lent old new new (inr (inl refl)),
+              passes_out e lent old new new (inr (inl refl)),
               is_same new,
             )
 
@@ -145,16 +145,16 @@ module _ (e : Edition) (lent : LentEdition e) (old new : List ℕ) (p : length o
           ap (λ (l : List ℕ). step l (step_to 30 0)) (sym (halves old p)) ∙ stepped (take 30 old) (get_or old 30 0) 0 30 (drop 31 old) (front old p) (omega arith) in
           let bare : NoTag (take 30 old ++ (0 ∷ drop 31 old)) = λ h. absurd (omega (arith, get_or_at (take 30 old) 0 (drop 31 old) 0 30 (front old p), h)) in
           let m : MayBe e old new (take 30 old ++ (0 ∷ drop 31 old)) = inr (inr (untagged e (take 30 old ++ (0 ∷ drop 31 old)) lent bare)) in
-          rw (tag, start, passes-out e lent old new (take 30 old ++ (0 ∷ drop 31 old)) m) (first 0 (λ h. omega arith))
+          rw (tag, start, passes_out e lent old new (take 30 old ++ (0 ∷ drop 31 old)) m) (first 0 (λ h. omega arith))
       go false f = unspoilt (eqb-false (get_or old 30 0) 0x60 f)
         where
           unspoilt : NoTag old → plan_test e old new old (change 30 (get_or old 30 0) (get_or old 30 0) ++ (changes 0 (take 30 old) (take 30 new) ++ (changes 31 (drop 31 old) (drop 31 new) ++ change 30 (get_or old 30 0) (get_or new 30 0)))) ≡ true
           unspoilt bare = rw (eq-eqb (get_or old 30 0) (get_or old 30 0) refl) (rw (halves old p) at (first (get_or old 30 0) bare))
 
   -- our own plans pass
-  pub own-plan : plan_test e old new old (our_plan old new) ≡ true
+  pub own_plan : plan_test e old new old (our_plan old new) ≡ true
   unfolding our_plan
-  own-plan = go (ltb (length (changes 0 old new)) 2) refl
+  own_plan = go (ltb (length (changes 0 old new)) 2) refl
     where
       go : (t : Bool) → ltb (length (changes 0 old new)) 2 ≡ t → plan_test e old new old (cond t (changes 0 old new) (rewritten old new)) ≡ true
       go true f = alone e lent old new [] old new 0 refl (omega arith) (q ∙ sym p) b (omega (arith, ltb-true (length (changes 0 old new)) 2 f)) refl

@@ -23,24 +23,24 @@ use Rattle.rewriting.proofs.Pulled.{ReadsAs, pulled}
 use Rattle.planning.specs.declared.Planned.{Planned}
 use Rattle.planning.specs.Planning.{our_plan, plan_refusal, planned, room_after}
 use Rattle.planning.proofs.Changes.{plan_short}
-use Rattle.planning.proofs.Own.{LentBytes, own-plan}
+use Rattle.planning.proofs.Own.{LentBytes, own_plan}
 
 -- ---- the answer of the plan, by what its code finds
 module _ (e : Edition) (old new room : List ℕ) where
-  pub planned-room : (length room ≡ 257 → ⊥) → (x : Refusal) → x ≡ refuse 20 0 0
+  pub planned_room : (length room ≡ 257 → ⊥) → (x : Refusal) → x ≡ refuse 20 0 0
       → (record { refusal = x; count = 0 } ≡ planned e old new room) × (room ≡ room_after e old new room)
   unfolding planned room_after plan_refusal gate
-  planned-room h x p = (rw (ne_eqb (length room) 257 h, p), rw (ne_eqb (length room) 257 h))
+  planned_room h x p = (rw (ne_eqb (length room) 257 h, p), rw (ne_eqb (length room) 257 h))
 
-  pub planned-refused : length room ≡ 257 → (x : Refusal) → x ≡ input_refusal e (length old) new → (x.number ≡ 0 → ⊥)
+  pub planned_refused : length room ≡ 257 → (x : Refusal) → x ≡ input_refusal e (length old) new → (x.number ≡ 0 → ⊥)
       → (record { refusal = x; count = 0 } ≡ planned e old new room) × (room ≡ room_after e old new room)
   unfolding planned room_after plan_refusal gate
-  planned-refused h x p n = (rw (h, ← p, ne_eqb x.number 0 n), rw (h, ← p, ne_eqb x.number 0 n))
+  planned_refused h x p n = (rw (h, ← p, ne_eqb x.number 0 n), rw (h, ← p, ne_eqb x.number 0 n))
 
-  pub planned-done : length room ≡ 257 → (x : Refusal) → x ≡ input_refusal e (length old) new → x.number ≡ 0 → (y : Refusal) → y ≡ none → (n : ℕ) (r : List ℕ)
+  pub planned_done : length room ≡ 257 → (x : Refusal) → x ≡ input_refusal e (length old) new → x.number ≡ 0 → (y : Refusal) → y ≡ none → (n : ℕ) (r : List ℕ)
       → Put room 0 (our_plan old new) r n → (record { refusal = y; count = n } ≡ planned e old new room) × (r ≡ room_after e old new room)
   unfolding planned room_after plan_refusal gate
-  planned-done h x p z y q n r put =
+  planned_done h x p z y q n r put =
       let place : n ≡ length (our_plan old new) = omega (arith, put.place) in
       (rw (h, ← p, z, q, place), rw (h, ← p, z) put.stored)
 
@@ -55,9 +55,9 @@ module _ (e : Edition) (old new room : List ℕ) (done : (planned e old new room
   abbrev steps : List ℕ
   steps = take (planned e old new room).count (room_after e old new room)
 
-  pub planned-input : (plan_refusal e old new room).number ≡ 0
+  pub planned_input : (plan_refusal e old new room).number ≡ 0
   unfolding planned gate
-  planned-input = go (eqb (plan_refusal e old new room).number 0) refl done
+  planned_input = go (eqb (plan_refusal e old new room).number 0) refl done
     where
       go : (q : Bool) → eqb (plan_refusal e old new room).number 0 ≡ q
           → (gate {A = Planned} q (record { refusal = plan_refusal e old new room; count = 0 }) (record { refusal = none; count = length (our_plan old new) })).refusal.number ≡ 0
@@ -68,20 +68,20 @@ module _ (e : Edition) (old new room : List ℕ) (done : (planned e old new room
   steps-are : steps ≡ our_plan old new
   unfolding planned room_after gate
   steps-are =
-      let r = room_in e old new room planned-input in
-      let short : length (our_plan old new) ≤ 257 = plan_short old new r.1.old-size in
-      rw planned-input
+      let r = room_in e old new room planned_input in
+      let short : length (our_plan old new) ≤ 257 = plan_short old new r.1.old_size in
+      rw planned_input
       (ap (take (length (our_plan old new))) (sets-eq (our_plan old new) room 0 (omega (arith, r.0)))
       ∙ take_at (our_plan old new) (drop (0 + length (our_plan old new)) room) (length (our_plan old new)) refl)
 
   -- Twelve: our own plans always pass
-  pub own-plans-pass : LentEdition e → LentBytes new → checked e old new steps ≡ record { refusal = none; safe = true }
-  own-plans-pass lent b =
-      let r = room_in e old new room planned-input in
-      let short : length (our_plan old new) ≤ 257 = plan_short old new r.1.old-size in
+  pub own_plans_pass : LentEdition e → LentBytes new → checked e old new steps ≡ record { refusal = none; safe = true }
+  own_plans_pass lent b =
+      let r = room_in e old new room planned_input in
+      let short : length (our_plan old new) ≤ 257 = plan_short old new r.1.old_size in
       rw steps-are
-      (checked_is e old new (our_plan old new) r.1 short ∙ ap (λ (y : Bool). record { refusal = none; safe = y }) (own-plan e lent old new r.1.old-size r.1.new-size b))
+      (checked_is e old new (our_plan old new) r.1 short ∙ ap (λ (y : Bool). record { refusal = none; safe = y }) (own_plan e lent old new r.1.old_size r.1.new_size b))
 
   -- Twelve: whenever the plug is pulled, at any step of our plan, what a terminal of that edition reads is the old card, the new one, or a refusal
-  pub own-pulled : LentEdition e → LentBytes new → (k : ℕ) → k ≤ length steps → ReadsAs e old new (run old (take k steps))
-  own-pulled lent b k l = pulled e old new steps lent (ap (λ (c : Checked). c.safe) (own-plans-pass lent b)) k l
+  pub own_pulled : LentEdition e → LentBytes new → (k : ℕ) → k ≤ length steps → ReadsAs e old new (run old (take k steps))
+  own_pulled lent b k l = pulled e old new steps lent (ap (λ (c : Checked). c.safe) (own_plans_pass lent b)) k l

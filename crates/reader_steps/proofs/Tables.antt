@@ -22,9 +22,9 @@ use Rattle.card.specs.Reading.{checksum_refusal, tail_refusal, values_in, walk_r
 use Rattle.card.specs.Places.{starts_from, no_places, placed, places}
 use Rattle.card.proofs.Chains.{or_pass, or_stop, or_assoc, neither, places_by_lem, table_well}
 use Rattle.card.proofs.Readings.{through_of}
-use Rattle.card.proofs.Starts.{sums-starts}
+use Rattle.card.proofs.Starts.{sums_starts}
 use Rattle.frame.specs.Checks.{open_refusal, tail_from, Framed}
-use Rattle.frame.proofs.Extents.{open_right, open_formed, framed, template-is, start-most, size_most}
+use Rattle.frame.proofs.Extents.{open_right, open_formed, framed, template_is, start_most, size_most}
 use Rattle.objects.specs.Objects.{table_refusal, table_of, listed}
 use Rattle.reader_steps.specs.Steps.{end_refusal, checksum_at, tail_at, end_at, last_refusal, settled, places_by}
 
@@ -39,21 +39,21 @@ module _ (s : List ℕ) (t : Places) where
   unfolding settled
   settle-first x e h = rw (e, ne_eqb x.number 0 h)
 
-  pub settle-own : (t.refusal.number ≡ 0 → ⊥) → no_places t.refusal ≡ settled s t
+  pub settle_own : (t.refusal.number ≡ 0 → ⊥) → no_places t.refusal ≡ settled s t
   unfolding last_refusal
-  settle-own h = settle-first t.refusal (or_stop t.refusal _ h) h
+  settle_own h = settle-first t.refusal (or_stop t.refusal _ h) h
 
   module _ (behind : Refusal) (is : behind ≡ or_else (sums_refusal (tag_before t.starts) t.lengths) (end_refusal s)) (own : t.refusal.number ≡ 0) where
     last-is : last_refusal s t ≡ behind
     unfolding last_refusal
     last-is = or_pass t.refusal _ own ∙ sym is
 
-    pub settle-behind : (behind.number ≡ 0 → ⊥) → no_places behind ≡ settled s t
-    settle-behind h = settle-first behind last-is h
+    pub settle_behind : (behind.number ≡ 0 → ⊥) → no_places behind ≡ settled s t
+    settle_behind h = settle-first behind last-is h
 
-    pub settle-none : behind.number ≡ 0 → t ≡ settled s t
+    pub settle_none : behind.number ≡ 0 → t ≡ settled s t
     unfolding settled
-    settle-none z = rw (last-is, z)
+    settle_none z = rw (last-is, z)
 
 -- ---- the table that values make, with a refusal or without
 placed_stop : (x : Refusal) (at : ℕ) (vs : List (List ℕ)) → (x.number ≡ 0 → ⊥) → placed x at vs ≡ no_places x
@@ -71,12 +71,12 @@ settled_full : (s : List ℕ) (at : ℕ) (vs : List (List ℕ)) → length vs �
 unfolding settled placed last_refusal
 settled_full s at vs many =
     let e : last_refusal s (full at vs) ≡ or_else (sums_refusal (tag_at at vs) (map length vs)) (end_refusal s) =
-    or_pass none _ refl ∙ ap (λ (g : Refusal). or_else g (end_refusal s)) (sums-starts at vs many) in
+    or_pass none _ refl ∙ ap (λ (g : Refusal). or_else g (end_refusal s)) (sums_starts at vs many) in
     rw e
 
 settled_stop : (s : List ℕ) (x : Refusal) (at : ℕ) (vs : List (List ℕ)) → (x.number ≡ 0 → ⊥) → settled s (placed x at vs) ≡ no_places x
 unfolding no_places
-settled_stop s x at vs h = ap (settled s) (placed_stop x at vs h) ∙ sym (settle-own s (no_places x) h)
+settled_stop s x at vs h = ap (settled s) (placed_stop x at vs h) ∙ sym (settle_own s (no_places x) h)
 
 -- ---- the chain behind the front
 module _ (e : Edition) (s : List ℕ) (seventeen : length e.rows ≡ 17) (formed : formed_of e ≡ Well) where
@@ -140,7 +140,7 @@ unfolding listed end_of
 listed_is e s long right =
     let size = (field_told (field_of s)).length in
     let n : length (objects_in s) ≡ size = length-take-le size (drop (start_of s) s) (omega (arith, length-drop (start_of s) s, (framed s long right).most)) in
-    rw (← template-is s long right, le-leb (start_of s) 33 (start-most s long right), le-leb (length (objects_in s)) 212 (omega (arith, size_most s long right)), n)
+    rw (← template_is s long right, le-leb (start_of s) 33 (start_most s long right), le-leb (length (objects_in s)) 212 (omega (arith, size_most s long right)), n)
 
 -- ---- the places by their steps
 pub by_refused : (x : Refusal) (e : Edition) (s : List ℕ) → ((open_refusal x s).number ≡ 0 → ⊥) → no_places (open_refusal x s) ≡ places_by x e s

@@ -106,9 +106,9 @@ module _ (e : Edition) (s : List ℕ) (t : Through e s) where
       let low : k < 16 = omega (arith, starts_length (start_of s) vs 0 16) in
       value_at_lem s st ls k many ∙ rw (start_is k low, length-is k) (value_back k low))
 
-  pub values-inside : formed_of e ≡ Well → Inside s st ls
+  pub values_inside : formed_of e ≡ Well → Inside s st ls
   unfolding start_at
-  values-inside formed = record {
+  values_inside formed = record {
     within = λ k h. rw (start_is k h, length-is k) (room k h (get_or vs k []) refl);
     short = λ k h. rw (length-is k) (met_short object_tags e.rows vs (λ i l. (formed_within e.rows i (formed_rows e formed) l).small) t.met k);
   }
@@ -159,5 +159,5 @@ reads_accepted e s p n is z = go (answer e s) refl is
               ap (λ (v : List (List ℕ)). record { refusal = none; content = record_of e.number (content_at s v) }) back
               ∙ ap (λ (y : Content). record { refusal = none; content = record_of e.number y }) r.1 ∙ sym (ap (answer_of e.number) a);
           long = b.size;
-          inside = rw (st, ls) (values-inside e s t b.formed);
+          inside = rw (st, ls) (values_inside e s t b.formed);
         }

@@ -32,26 +32,26 @@ module _ (e : Edition) (s l : List ℕ) (r : Record) (room : List ℕ) where
   abbrev answered : Refusal
   answered = rebuild_refusal e s l r (length room)
 
-  pub room-left : (answered.number ≡ 0 → ⊥) → room ≡ rebuild_room e s l r room
+  pub room_left : (answered.number ≡ 0 → ⊥) → room ≡ rebuild_room e s l r room
   unfolding rebuild_room
-  room-left h = rw (ne_eqb answered.number 0 h)
+  room_left h = rw (ne_eqb answered.number 0 h)
 
-  pub size-told : (length room ≡ 256 → ⊥) → refuse 20 0 0 ≡ answered
+  pub size_told : (length room ≡ 256 → ⊥) → refuse 20 0 0 ≡ answered
   unfolding rebuild_refusal gate or_else
-  size-told h = rw (ne_eqb (length room) 256 h)
+  size_told h = rw (ne_eqb (length room) 256 h)
 
   module _ (n : length room ≡ 256) where
     passed : answered ≡ or_else (reading e s).refusal (write_refusal e e.number (rebuilt_from e s l r) (length room))
     unfolding rebuild_refusal gate
     passed = rw (eq-eqb (length room) 256 n) (or_pass none _ refl)
 
-    pub first-told : ((reading e s).refusal.number ≡ 0 → ⊥) → (reading e s).refusal ≡ answered
-    first-told h = sym (passed ∙ or_stop _ _ h)
+    pub first_told : ((reading e s).refusal.number ≡ 0 → ⊥) → (reading e s).refusal ≡ answered
+    first_told h = sym (passed ∙ or_stop _ _ h)
 
     module _ (z : (reading e s).refusal.number ≡ 0) (m : Record) (same : content_of m ≡ rebuilt_from e s l r) (own : m.number ≡ e.number) where
-      pub last-told : record_refusal e m room ≡ answered
-      last-told = ap₂ (λ (k : ℕ) (c : Content). write_refusal e k c (length room)) own same ∙ sym (passed ∙ or_pass _ _ z)
+      pub last_told : record_refusal e m room ≡ answered
+      last_told = ap₂ (λ (k : ℕ) (c : Content). write_refusal e k c (length room)) own same ∙ sym (passed ∙ or_pass _ _ z)
 
-      pub room-filled : buffer_after e m room ≡ rebuild_room e s l r room
+      pub room_filled : buffer_after e m room ≡ rebuild_room e s l r room
       unfolding rebuild_room buffer_after
-      room-filled = rw (← last-told, same)
+      room_filled = rw (← last_told, same)

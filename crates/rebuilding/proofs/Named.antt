@@ -10,14 +10,14 @@ use lib.Seq.{drop-cons}
 use Rattle.ground.specs.Lists.{among}
 
 module _ (b : ℕ) (l : List ℕ) (i : ℕ) where
-  pub among-here : i < length l → get_or l i 0 ≡ b → among b (drop i l) ≡ true
+  pub among_here : i < length l → get_or l i 0 ≡ b → among b (drop i l) ≡ true
   unfolding among
-  among-here h e = rw (drop-cons l i 0 h, e, eq-eqb b b refl)
+  among_here h e = rw (drop-cons l i 0 h, e, eq-eqb b b refl)
 
-  pub among-behind : i < length l → (get_or l i 0 ≡ b → ⊥) → among b (drop i l) ≡ among b (drop (i + 1) l)
+  pub among_behind : i < length l → (get_or l i 0 ≡ b → ⊥) → among b (drop i l) ≡ among b (drop (i + 1) l)
   unfolding among
-  among-behind h e = rw (drop-cons l i 0 h, ne_eqb b (get_or l i 0) (λ q. e (cc)), add-one)
+  among_behind h e = rw (drop-cons l i 0 h, ne_eqb b (get_or l i 0) (λ q. e (cc)), add-one)
 
-  pub among-end : length l ≤ i → among b (drop i l) ≡ false
+  pub among_end : length l ≤ i → among b (drop i l) ≡ false
   unfolding among
-  among-end h = rw (drop_of_length-le l h)
+  among_end h = rw (drop_of_length-le l h)

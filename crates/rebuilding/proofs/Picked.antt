@@ -8,21 +8,21 @@ use lib.ListN.{length, get_or}
 use Rattle.rebuilding.specs.Rebuilding.{mended}
 
 module _ {A : Type 0} (listed : ℕ → Bool) where
-  pub mended-length : (ns : List ℕ) (vs ws : List A) → length vs ≡ length ns → length ws ≡ length ns → length (mended listed ns vs ws) ≡ length ns
+  pub mended_length : (ns : List ℕ) (vs ws : List A) → length vs ≡ length ns → length ws ≡ length ns → length (mended listed ns vs ws) ≡ length ns
   unfolding mended
-  mended-length [] vs ws m n = refl
-  mended-length (k ∷ ns) [] ws m n = absurd (omega arith)
-  mended-length (k ∷ ns) (v ∷ vs) [] m n = absurd (omega arith)
-  mended-length (k ∷ ns) (v ∷ vs) (w ∷ ws) m n = ap suc (mended-length ns vs ws (omega arith) (omega arith))
+  mended_length [] vs ws m n = refl
+  mended_length (k ∷ ns) [] ws m n = absurd (omega arith)
+  mended_length (k ∷ ns) (v ∷ vs) [] m n = absurd (omega arith)
+  mended_length (k ∷ ns) (v ∷ vs) (w ∷ ws) m n = ap suc (mended_length ns vs ws (omega arith) (omega arith))
 
-  pub mended-at : (ns : List ℕ) (vs ws : List A) (d : A) (i : ℕ) → length vs ≡ length ns → length ws ≡ length ns → i < length ns
+  pub mended_at : (ns : List ℕ) (vs ws : List A) (d : A) (i : ℕ) → length vs ≡ length ns → length ws ≡ length ns → i < length ns
       → get_or (mended listed ns vs ws) i d ≡ cond (listed (get_or ns i 0)) (get_or ws i d) (get_or vs i d)
   unfolding mended
-  mended-at [] vs ws d i m n h = absurd (omega arith)
-  mended-at (k ∷ ns) [] ws d i m n h = absurd (omega arith)
-  mended-at (k ∷ ns) (v ∷ vs) [] d i m n h = absurd (omega arith)
-  mended-at (k ∷ ns) (v ∷ vs) (w ∷ ws) d zero m n h = refl
-  mended-at (k ∷ ns) (v ∷ vs) (w ∷ ws) d (suc i) m n h = mended-at ns vs ws d i (omega arith) (omega arith) (omega arith)
+  mended_at [] vs ws d i m n h = absurd (omega arith)
+  mended_at (k ∷ ns) [] ws d i m n h = absurd (omega arith)
+  mended_at (k ∷ ns) (v ∷ vs) [] d i m n h = absurd (omega arith)
+  mended_at (k ∷ ns) (v ∷ vs) (w ∷ ws) d zero m n h = refl
+  mended_at (k ∷ ns) (v ∷ vs) (w ∷ ws) d (suc i) m n h = mended_at ns vs ws d i (omega arith) (omega arith) (omega arith)
 
 -- what is made of each element chosen
 pub mended_map : {A B : Type 0} (f : A → B) (listed : ℕ → Bool) (ns : List ℕ) (vs ws : List A) → map f (mended listed ns vs ws) ≡ mended listed ns (map f vs) (map f ws)

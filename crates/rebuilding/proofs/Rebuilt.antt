@@ -19,7 +19,7 @@ use Rattle.differences.proofs.Words.{tags_16, addresses_14}
 use Rattle.differences.proofs.Others.{bytes_14, free_at, last_at, address_at}
 use Rattle.differences.specs.Exact.{Exact, Tells, not-in-first, not-in-second, other_length, first-index, TellsByte, other_byte, Exactly, no_more, same, other}
 use Rattle.rebuilding.specs.Rebuilding.{tag_in, names_tag, names_address, mended, rebuilt, Supplies}
-use Rattle.rebuilding.proofs.Picked.{mended-length, mended-at, mended_only}
+use Rattle.rebuilding.proofs.Picked.{mended_length, mended_at, mended_only}
 use Rattle.differences.proofs.Exactness.{differences_exact}
 
 map_map : (xs : List Difference) → map tag_in (map word_of xs) ≡ map (λ (x : Difference). tag_in (word_of x)) xs
@@ -93,7 +93,7 @@ module _ (c d : Content) (vc : length c.values ≡ 16) (vd : length d.values ≡
   tag-missing : (k : ℕ) → k < 16 → names_tag l (get_or object_tags k 0) ≡ false → ((j : ℕ) → length (get_or c.values j []) ≤ 28) → get_or c.values k [] ≡ get_or d.values k []
   unfolding names_tag
   tag-missing k h f short =
-      not_named Tells (λ (v : List ℕ). length v ≤ 28) (λ (x : Difference). tag_in (word_of x)) (λ (t : ℕ). t) [] exact.by-tag
+      not_named Tells (λ (v : List ℕ). length v ≤ 28) (λ (x : Difference). tag_in (word_of x)) (λ (t : ℕ). t) [] exact.by_tag
       (λ j v w x i s t. tag_back (get_or object_tags j 0) (tag_low j (omega (arith, tags_16))) v w x s t) short k (omega (arith, tags_16))
       (rw (map_map exact.objects) at (not_front (get_or object_tags k 0) (map tag_in (map word_of exact.objects)) _ (rw (words, map-append) at f)))
 
@@ -126,32 +126,32 @@ module _ (c d x : Content) (vc : length c.values ≡ 16) (vd : length d.values �
 
   frees : Supplies named x d → mended (names_address named) free_addresses c.free x.free ≡ d.free
   frees s =
-      let many = mended-length (names_address named) free_addresses c.free x.free fc fx in
+      let many = mended_length (names_address named) free_addresses c.free x.free fc fx in
       ext_get_or 0 (mended (names_address named) free_addresses c.free x.free) d.free (many ∙ sym fd) (λ k h.
       let low : k < 12 = omega (arith, many) in
-      mended-at (names_address named) free_addresses c.free x.free 0 k fc fx low
+      mended_at (names_address named) free_addresses c.free x.free 0 k fc fx low
       ∙ picked (names_address named (get_or free_addresses k 0)) (get_or x.free k 0) (get_or c.free k 0) (get_or d.free k 0) (s.free k low)
       (λ f. sym (free_at c fc k low) ∙ missing (suc k) (omega arith) (rw (address_at k low) f) ∙ free_at d fd k low))
 
   values : Supplies named x d → mended (names_tag named) object_tags c.values x.values ≡ d.values
   values s =
-      let many = mended-length (names_tag named) object_tags c.values x.values (vc ∙ sym tags_16) (vx ∙ sym tags_16) in
+      let many = mended_length (names_tag named) object_tags c.values x.values (vc ∙ sym tags_16) (vx ∙ sym tags_16) in
       ext_get_or [] (mended (names_tag named) object_tags c.values x.values) d.values (many ∙ tags_16 ∙ sym vd) (λ k h.
       let low : k < 16 = omega (arith, many, tags_16) in
-      mended-at (names_tag named) object_tags c.values x.values [] k (vc ∙ sym tags_16) (vx ∙ sym tags_16) (omega (arith, tags_16))
+      mended_at (names_tag named) object_tags c.values x.values [] k (vc ∙ sym tags_16) (vx ∙ sym tags_16) (omega (arith, tags_16))
       ∙ picked (names_tag named (get_or object_tags k 0)) (get_or x.values k []) (get_or c.values k []) (get_or d.values k []) (s.values k low)
       (λ f. tag-missing c d vc vd fc fd k low f short))
 
-  pub second-rebuilt : Supplies named x d → rebuilt named c x ≡ d
+  pub second_rebuilt : Supplies named x d → rebuilt named c x ≡ d
   unfolding rebuilt
-  second-rebuilt s = rw (firsts s, frees s, lasts s, values s)
+  second_rebuilt s = rw (firsts s, frees s, lasts s, values s)
 
 -- .. and of what is handed over nothing else is looked at, whatever the list is
 module _ (l : List ℕ) (c x y : Content) (vc : length c.values ≡ 16) (fc : length c.free ≡ 12)
     (vx : length x.values ≡ 16) (vy : length y.values ≡ 16) (fx : length x.free ≡ 12) (fy : length y.free ≡ 12) where
-  pub nothing-else : Supplies l x y → rebuilt l c x ≡ rebuilt l c y
+  pub nothing_else : Supplies l x y → rebuilt l c x ≡ rebuilt l c y
   unfolding rebuilt
-  nothing-else s =
+  nothing_else s =
       let first : cond (names_address l 0) x.first c.first ≡ cond (names_address l 0) y.first c.first = chosen (names_address l 0) c.first s.first in
       let last : cond (names_address l 255) x.last c.last ≡ cond (names_address l 255) y.last c.last = chosen (names_address l 255) c.last s.last in
       let free = mended_only (names_address l) 0 free_addresses c.free x.free y.free fc fx fy s.free in

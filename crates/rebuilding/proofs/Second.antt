@@ -17,8 +17,8 @@ use Rattle.differences.specs.declared.Differences.{Differences}
 use Rattle.differences.specs.Differences.{differences_of}
 use Rattle.differences.specs.Answers.{thirty, compared}
 use Rattle.rebuilding.specs.Rebuilding.{Supplies, rebuilt_from, rebuild_refusal, rebuild_room}
-use Rattle.rebuilding.proofs.Rebuilt.{second-rebuilt}
-use Rattle.differences.proofs.Images.{values_16, first_read, differences-listed}
+use Rattle.rebuilding.proofs.Rebuilt.{second_rebuilt}
+use Rattle.differences.proofs.Images.{values_16, first_read, differences_listed}
 
 short_at : {vs : List (List ℕ)} → Short vs → (j : ℕ) → length (get_or vs j []) ≤ 28
 short_at short-end zero = omega arith
@@ -34,7 +34,7 @@ module _ (e : Edition) (s t : List ℕ) (n : LentEdition e) (p : Meets e s) (q :
   d = q.content
 
   listed : (compared e s t).entries ≡ thirty (differences_of c d)
-  listed = ap (λ (x : Differences). x.entries) (differences-listed e s t n p q)
+  listed = ap (λ (x : Differences). x.entries) (differences_listed e s t n p q)
 
   rebuilt-second : rebuilt_from e s (compared e s t).entries r ≡ d
   unfolding answer_of content_of
@@ -42,13 +42,13 @@ module _ (e : Edition) (s t : List ℕ) (n : LentEdition e) (p : Meets e s) (q :
       let own : content_of (answer_of e.number (answer e s)).content ≡ c = rw (first_read e s t n p q) (content_back e.number c) in
       let many : length (content_of r).values ≡ 16 = length-map r.objects value_of ∙ lent.objects in
       rw (own, listed)
-      (second-rebuilt c d (content_of r) (values_16 e c n p.allowed) (values_16 e d n q.allowed) p.allowed.free q.allowed.free many lent.free (short_at (allowed_short e c p.allowed))
+      (second_rebuilt c d (content_of r) (values_16 e c n p.allowed) (values_16 e d n q.allowed) p.allowed.free q.allowed.free many lent.free (short_at (allowed_short e c p.allowed))
       (rw listed at supplies))
 
-  pub rebuild-accepts : rebuild_refusal e s (compared e s t).entries r 256 ≡ none
+  pub rebuild_accepts : rebuild_refusal e s (compared e s t).entries r 256 ≡ none
   unfolding rebuild_refusal or_else gate answer_of
-  rebuild-accepts = rw (rebuilt-second, first_read e s t n p q) (allowed_written e d q.allowed)
+  rebuild_accepts = rw (rebuilt-second, first_read e s t n p q) (allowed_written e d q.allowed)
 
-  pub second-image : (room : List ℕ) → length room ≡ 256 → rebuild_room e s (compared e s t).entries r room ≡ t
+  pub second_image : (room : List ℕ) → length room ≡ 256 → rebuild_room e s (compared e s t).entries r room ≡ t
   unfolding rebuild_room
-  second-image room size = rw (size, rebuild-accepts, rebuilt-second) q.drawn
+  second_image room size = rw (size, rebuild_accepts, rebuilt-second) q.drawn

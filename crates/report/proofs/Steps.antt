@@ -20,9 +20,9 @@ module _ (rs : List Row) (k : ℕ) where
   unfolding report_from
   rows_pass h c e z = rw (add-one, drop-cons rs k no_row h, ← e, z)
 
-  pub rows-stop : k < length rs → (c : ℕ) → Clause c → eqb c 0 ≡ false → told c k ≡ report_from k (drop k rs)
+  pub rows_stop : k < length rs → (c : ℕ) → Clause c → eqb c 0 ≡ false → told c k ≡ report_from k (drop k rs)
   unfolding report_from
-  rows-stop h c e z = rw (drop-cons rs k no_row h, ← e, z)
+  rows_stop h c e z = rw (drop-cons rs k no_row h, ← e, z)
 
   pub rows_end : k ≡ length rs → report_from k (drop k rs) ≡ told 0 17
   unfolding report_from

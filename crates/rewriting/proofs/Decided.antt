@@ -18,7 +18,7 @@ use Rattle.demands.specs.Demands.{LentEdition}
 use Rattle.rewriting.specs.declared.Checked.{Checked}
 use Rattle.rewriting.specs.Plans.{address_of, step, run, MayBe, SafeFrom, Safe}
 use Rattle.rewriting.specs.Checking.{input_refusal, passes, plan_test, checked}
-use Rattle.rewriting.proofs.Refused.{met-number, number_met, Input, input_in, input_out}
+use Rattle.rewriting.proofs.Refused.{met_number, number_met, Input, input_in, input_out}
 
 pub is_same : (s : List ℕ) → same_list s s ≡ true
 unfolding same_list
@@ -36,7 +36,7 @@ module _ (e : Edition) (n : LentEdition e) (old new : List ℕ) where
     where
       three : (q : Bool) → eqb (reading e s).refusal.number 0 ≡ q → not q ≡ true → Meets e s → ⊥
       three true f h m = true_false h refl
-      three false f h m = eqb-false (reading e s).refusal.number 0 f (met-number e s n m)
+      three false f h m = eqb-false (reading e s).refusal.number 0 f (met_number e s n m)
 
       two : (same_list s new ≡ true) ⊎ (not (eqb (reading e s).refusal.number 0) ≡ true) → MayBe e old new s
       two (inl g) = inr (inl (same_equal s new g))
@@ -46,11 +46,11 @@ module _ (e : Edition) (n : LentEdition e) (old new : List ℕ) where
       one (inl g) = inl (same_equal s old g)
       one (inr g) = two (or_cases (same_list s new) _ g)
 
-  pub passes-out : (s : List ℕ) → MayBe e old new s → passes e old new s ≡ true
+  pub passes_out : (s : List ℕ) → MayBe e old new s → passes e old new s ≡ true
   unfolding passes
-  passes-out s (inl g) = rw (g, is_same old)
-  passes-out s (inr (inl g)) = rw (g, is_same new) (or-true (same_list new old))
-  passes-out s (inr (inr g)) = rw (ne_eqb (reading e s).refusal.number 0 (λ z. g (number_met e s n z)), or-true (same_list s new)) (or-true (same_list s old))
+  passes_out s (inl g) = rw (g, is_same old)
+  passes_out s (inr (inl g)) = rw (g, is_same new) (or-true (same_list new old))
+  passes_out s (inr (inr g)) = rw (ne_eqb (reading e s).refusal.number 0 (λ z. g (number_met e s n z)), or-true (same_list s new)) (or-true (same_list s old))
 
   safe-more : (s : List ℕ) (x : ℕ) (p : List ℕ) → address_of x ≤ 255 → MayBe e old new s → SafeFrom e old new (step s x) p → SafeFrom e old new s (x ∷ p)
   unfolding run
@@ -90,16 +90,16 @@ module _ (e : Edition) (n : LentEdition e) (old new : List ℕ) where
   unfolding plan_test run
   test-out s [] f = rw f.ends (is_same new)
   test-out s (x ∷ p) f =
-      rw (le-leb (address_of x) 255 (f.within 0 (omega arith)), passes-out (step s x) (f.passing 1 (omega arith)))
+      rw (le-leb (address_of x) 255 (f.within 0 (omega arith)), passes_out (step s x) (f.passing 1 (omega arith)))
       (test-out (step s x) p (safe-rest s x p f))
 
-  pub plan-decided : (steps : List ℕ) → (plan_test e old new old steps ≡ true) ↔ Safe e old new steps
-  plan-decided steps = (test_in old steps (inl refl), test-out old steps)
+  pub plan_decided : (steps : List ℕ) → (plan_test e old new old steps ≡ true) ↔ Safe e old new steps
+  plan_decided steps = (test_in old steps (inl refl), test-out old steps)
 
 -- ---- Twelve: the check says yes exactly when the sizes are right, the new image meets every rule, at most 257 steps are offered, and the plan is safe
 pub record Right (e : Edition) (old new steps : List ℕ) : Type 0 where
-  pub old-size : length old ≡ 256
-  pub new-size : length new ≡ 256
+  pub old_size : length old ≡ 256
+  pub new_size : length new ≡ 256
   pub meets : Meets e new
   pub few : length steps ≤ 257
   pub safe : Safe e old new steps
@@ -117,7 +117,7 @@ module _ (e : Edition) (n : LentEdition e) (old new steps : List ℕ) where
       end = record { refusal = none; safe = plan_test e old new old steps }
 
       two : Input e old new → (q : Bool) → leb (length steps) 257 ≡ q → (gate q (record { refusal = refuse 60 0 0; safe = false }) end).safe ≡ true → Right e old new steps
-      two i true f h = record { old-size = i.old-size; new-size = i.new-size; meets = number_met e new n i.taken; few = leb-true (length steps) 257 f; safe = (plan-decided e n old new steps).0 h }
+      two i true f h = record { old_size = i.old_size; new_size = i.new_size; meets = number_met e new n i.taken; few = leb-true (length steps) 257 f; safe = (plan_decided e n old new steps).0 h }
       two i false f h = absurd (true_false h refl)
 
       one : (q : Bool) → eqb (input_refusal e (length old) new).number 0 ≡ q
@@ -128,8 +128,8 @@ module _ (e : Edition) (n : LentEdition e) (old new steps : List ℕ) where
 
   yes-out : Right e old new steps → (checked e old new steps).safe ≡ true
   yes-out r =
-      ap (λ (c : Checked). c.safe) (checked_is e old new steps (record { old-size = r.old-size; new-size = r.new-size; taken = met-number e new n r.meets }) r.few)
-      ∙ (plan-decided e n old new steps).1 r.safe
+      ap (λ (c : Checked). c.safe) (checked_is e old new steps (record { old_size = r.old_size; new_size = r.new_size; taken = met_number e new n r.meets }) r.few)
+      ∙ (plan_decided e n old new steps).1 r.safe
 
-  pub check-says : ((checked e old new steps).safe ≡ true) ↔ Right e old new steps
-  check-says = (yes-in, yes-out)
+  pub check_says : ((checked e old new steps).safe ≡ true) ↔ Right e old new steps
+  check_says = (yes-in, yes-out)

@@ -12,7 +12,7 @@ use Rattle.demands.specs.Demands.{LentEdition, Refuses}
 use Rattle.rewriting.specs.Plans.{run, MayBe}
 use Rattle.rewriting.specs.Checking.{checked}
 use Rattle.rewriting.proofs.Refused.{number_met}
-use Rattle.rewriting.proofs.Decided.{check-says}
+use Rattle.rewriting.proofs.Decided.{check_says}
 
 -- what is read of a state: what is read of the old card, or of the new one, or a refusal
 abbrev pub ReadsAs : Edition → List ℕ → List ℕ → List ℕ → Type 0
@@ -26,4 +26,4 @@ read_as e old new s n (inr (inr g)) = inr (inr (λ a. g (number_met e s n (ap (�
 -- of any plan that the check says yes to, after any number k of its steps
 pub pulled : (e : Edition) (old new steps : List ℕ) → LentEdition e → (checked e old new steps).safe ≡ true
     → (k : ℕ) → k ≤ length steps → ReadsAs e old new (run old (take k steps))
-pulled e old new steps n h k l = read_as e old new (run old (take k steps)) n (((check-says e n old new steps).0 h).safe.passing k l)
+pulled e old new steps n h k l = read_as e old new (run old (take k steps)) n (((check_says e n old new steps).0 h).safe.passing k l)

@@ -31,9 +31,9 @@ one_refusal e s = go (answer e s)
     go (refused x) = refl
 
 module _ (e : Edition) (s : List ℕ) (n : LentEdition e) where
-  pub met-number : Meets e s → (reading e s).refusal.number ≡ 0
+  pub met_number : Meets e s → (reading e s).refusal.number ≡ 0
   unfolding answer_of
-  met-number m = rw ((reads e s m.content n).1 (m.allowed, m.drawn))
+  met_number m = rw ((reads e s m.content n).1 (m.allowed, m.drawn))
 
   pub number_met : (reading e s).refusal.number ≡ 0 → Meets e s
   unfolding answer answer_of
@@ -48,8 +48,8 @@ module _ (e : Edition) (s : List ℕ) (n : LentEdition e) where
 
 -- ---- what is not refused before the plan is looked at
 pub record Input (e : Edition) (old new : List ℕ) : Type 0 where
-  pub old-size : length old ≡ 256
-  pub new-size : length new ≡ 256
+  pub old_size : length old ≡ 256
+  pub new_size : length new ≡ 256
   pub taken : (reading e new).refusal.number ≡ 0
 
 pub input_in : (e : Edition) (old new : List ℕ) → (input_refusal e (length old) new).number ≡ 0 → Input e old new
@@ -58,11 +58,11 @@ input_in e old new h =
     let b = neither _ _ h in
     let g = gate_in _ _ _ (omega arith) b.first in
     let k = gate_in _ _ _ (omega arith) g.1 in
-    record { old-size = eqb-true (length old) 256 g.0; new-size = eqb-true (length new) 256 k.0; taken = b.second }
+    record { old_size = eqb-true (length old) 256 g.0; new_size = eqb-true (length new) 256 k.0; taken = b.second }
 
 pub input_out : (e : Edition) (old new : List ℕ) → Input e old new → (input_refusal e (length old) new).number ≡ 0
 unfolding input_refusal sizes_refusal gate or_else
-input_out e old new i = rw (i.old-size, i.new-size) i.taken
+input_out e old new i = rw (i.old_size, i.new_size) i.taken
 
 pub sizes_right : (m n : ℕ) → m ≡ 256 → n ≡ 256 → sizes_refusal m n ≡ none
 unfolding sizes_refusal gate

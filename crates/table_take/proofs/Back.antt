@@ -15,7 +15,7 @@ use Rattle.table_take.specs.Splitting.{lines}
 use Rattle.table_take.specs.Taking.{taking, no_rows, with_line, finished, taken_from, taken}
 use Rattle.table_take.specs.Backs.{Held, took_all, TextBack}
 use Rattle.table_take.proofs.Signs.{line_flat}
-use Rattle.table_take.proofs.RowsBack.{row_line, row-text, row-flat, with_row, head_line, head_text_lem, head-flat, with-head}
+use Rattle.table_take.proofs.RowsBack.{row_line, row_text_lem, row_flat, with_row, head_line, head_text_lem, head_flat, with_head}
 
 lines_none : lines [] ≡ []
 unfolding lines
@@ -23,10 +23,10 @@ lines_none = refl
 
 -- the lines of what begins with the line of a row, or with the first line
 row_lines : (k : ℕ) (r : Row) → k < 17 → r.lengths < 2 ^ 32 → (rest : List ℕ) → lines (row_text k r ++ rest) ≡ row_line k r ∷ lines rest
-row_lines k r h s rest = rw (row-text k r, append_assoc (row_line k r) (0x0A ∷ []) rest) (line_flat (row-flat k r h s) rest)
+row_lines k r h s rest = rw (row_text_lem k r, append_assoc (row_line k r) (0x0A ∷ []) rest) (line_flat (row_flat k r h s) rest)
 
 head_lines : (number : ℕ) → number < 256 → (rest : List ℕ) → lines (head_text number ++ rest) ≡ head_line number ∷ lines rest
-head_lines number h rest = rw (head_text_lem number, append_assoc (head_line number) (0x0A ∷ []) rest) (line_flat (head-flat number h) rest)
+head_lines number h rest = rw (head_text_lem number, append_assoc (head_line number) (0x0A ∷ []) rest) (line_flat (head_flat number h) rest)
 
 taken_cons : (t : Taking) (n : ℕ) (l : List ℕ) (ls : List (List ℕ)) → taken_from t n (l ∷ ls) ≡ taken_from (with_line t n l) (suc n) ls
 unfolding taken_from
@@ -70,4 +70,4 @@ pub text_back : TextBack
 unfolding taken table_text
 text_back e held =
     let rest = rows_back e.rows [] 0 2 e.number refl (omega (arith, held.rows)) held.sets in
-    rw (head_lines e.number held.number, taken_cons, with-head e.number held.number) (rw held.rows at rest)
+    rw (head_lines e.number held.number, taken_cons, with_head e.number held.number) (rw held.rows at rest)

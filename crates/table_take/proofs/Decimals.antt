@@ -37,14 +37,14 @@ unfolding is_there always decimal
 theres = refl
 
 module _ (n : ℕ) (h : n < 256) where
-  pub decimal-back : number_of (decimal n) ≡ n
+  pub decimal_back : number_of (decimal n) ≡ n
   unfolding is_back always
-  decimal-back = eqb-true _ n (alike_below_lem is_back always 256 backs n h)
+  decimal_back = eqb-true _ n (alike_below_lem is_back always 256 backs n h)
 
-  pub decimal-digits : Among 0x30 0x39 (decimal n)
+  pub decimal_digits : Among 0x30 0x39 (decimal n)
   unfolding is_digits always
-  decimal-digits = among_of 0x30 0x39 (decimal n) (alike_below_lem is_digits always 256 digits n h)
+  decimal_digits = among_of 0x30 0x39 (decimal n) (alike_below_lem is_digits always 256 digits n h)
 
-  pub decimal-some : 0 < length (decimal n)
+  pub decimal_some : 0 < length (decimal n)
   unfolding is_there always
-  decimal-some = ltb-true 0 _ (alike_below_lem is_there always 256 theres n h)
+  decimal_some = ltb-true 0 _ (alike_below_lem is_there always 256 theres n h)

@@ -15,16 +15,16 @@ use Rattle.table_take.specs.LengthSets.{with_range, first_of, item_fault}
 use Rattle.table_take.specs.Words.{rule_found}
 
 module _ (set n last : ℕ) where
-  pub range-next : n ≤ last → last < 32 → with_range (bit_or set (1 * 2 ^ n % 4294967296)) (n + 1) (last + 1 - (n + 1)) ≡ with_range set n (last + 1 - n)
+  pub range_next : n ≤ last → last < 32 → with_range (bit_or set (1 * 2 ^ n % 4294967296)) (n + 1) (last + 1 - (n + 1)) ≡ with_range set n (last + 1 - n)
   unfolding with_range
-  range-next h l =
+  range_next h l =
       let e : last + 1 - n ≡ suc (last + 1 - suc n) = omega arith in
       let s = shifted n (omega arith) in
       rw (s, e, add-one n)
 
-  pub range-end : last < n → with_range set n (last + 1 - n) ≡ set
+  pub range_end : last < n → with_range set n (last + 1 - n) ≡ set
   unfolding with_range
-  range-end h = let e : last + 1 - n ≡ 0 = omega arith in rw e
+  range_end h = let e : last + 1 - n ≡ 0 = omega arith in rw e
 
 -- a number that ends an item well is a length
 pub item_length : (from n : ℕ) → item_fault from n ≡ 0 → n < 32
@@ -37,14 +37,14 @@ item_length from n e = go (ltb 256 n) refl (ltb 31 n) refl e
     go false p false f z = omega (arith, ltb-false 31 n f)
 
 module _ (w : List ℕ) (n : ℕ) where
-  pub found-stop : n < 27 → same_list w (word_of n) ≡ true → rule_found w n (27 - n) ≡ n
+  pub found_stop : n < 27 → same_list w (word_of n) ≡ true → rule_found w n (27 - n) ≡ n
   unfolding rule_found
-  found-stop h t = let e : 27 - n ≡ suc (27 - suc n) = omega arith in rw (e, t)
+  found_stop h t = let e : 27 - n ≡ suc (27 - suc n) = omega arith in rw (e, t)
 
-  pub found-next : n < 27 → same_list w (word_of n) ≡ false → rule_found w n (27 - n) ≡ rule_found w (n + 1) (27 - (n + 1))
+  pub found_next : n < 27 → same_list w (word_of n) ≡ false → rule_found w n (27 - n) ≡ rule_found w (n + 1) (27 - (n + 1))
   unfolding rule_found
-  found-next h t = let e : 27 - n ≡ suc (27 - suc n) = omega arith in rw (e, t, add-one)
+  found_next h t = let e : 27 - n ≡ suc (27 - suc n) = omega arith in rw (e, t, add-one)
 
-  pub found-end : n ≡ 27 → rule_found w n (27 - n) ≡ n
+  pub found_end : n ≡ 27 → rule_found w n (27 - n) ≡ n
   unfolding rule_found
-  found-end h = let e : 27 - n ≡ 0 = omega arith in rw e
+  found_end h = let e : 27 - n ≡ 0 = omega arith in rw e

@@ -23,7 +23,7 @@ use Rattle.table_take.specs.LengthSets.{listed, lengths_of}
 use Rattle.table_take.specs.Words.{fields, no_fields, rule_found, head_word, with_presence, with_rule, with_lengths, row_word, word_taken, missing, words_taken, line_taken}
 use Rattle.table_take.specs.Taking.{rule_by, is_remark, taking, no_rows, row_told, stored, with_line}
 use Rattle.table_take.proofs.Signs.{Among, none, more, among_append, among_wider, Word, not_blank, line_flat, word_then, word_alone}
-use Rattle.table_take.proofs.Decimals.{decimal-back, decimal-digits, decimal-some}
+use Rattle.table_take.proofs.Decimals.{decimal_back, decimal_digits, decimal_some}
 use Rattle.table_take.proofs.Spelled.{same_self, word_word, word_signs, tag_signs, edition_signs}
 use Rattle.table_take.proofs.SetsBack.{lengths_back, lengths_word}
 
@@ -84,9 +84,9 @@ module _ (k : ℕ) (r : Row) where
   abbrev pub row_line : List ℕ
   row_line = hex (tag_of k) ++ (0x20 ∷ (word_of k ++ (0x20 ∷ (word_of (presence_word r.required) ++ (0x20 ∷ (word_of (rule_word r.rule) ++ (0x20 ∷ lengths_text r.lengths)))))))
 
-  pub row-text : row_text k r ≡ row_line ++ (0x0A ∷ [])
+  pub row_text_lem : row_text k r ≡ row_line ++ (0x0A ∷ [])
   unfolding row_text front_text kind_text set_text spaced
-  row-text = simp append_assoc
+  row_text_lem = simp append_assoc
 
   module _ (h : k < 17) (s : r.lengths < 2 ^ 32) where
     row_words : through (word_taken (k + 1)) no_fields
@@ -140,8 +140,8 @@ module _ (k : ℕ) (r : Row) where
           word_alone (lengths_text r.lengths) (lengths_word r.lengths s),
         )
 
-    pub row-flat : Among 0x20 0x7E row_line
-    row-flat =
+    pub row_flat : Among 0x20 0x7E row_line
+    row_flat =
         among_append (wide tag_word) (more {b = 0x20} (omega arith) (omega arith) (among_append (wide (word_word k (omega arith))) (more {b = 0x20} (omega arith) (omega arith)
         (among_append (wide presence-word) (more {b = 0x20} (omega arith) (omega arith) (among_append (wide rule-word) (more {b = 0x20} (omega arith) (omega arith) (wide (lengths_word r.lengths s)))))))))
 
@@ -172,10 +172,10 @@ head_text_lem number = simp append_assoc
 
 module _ (number : ℕ) (h : number < 256) where
   number_word : Word (decimal number)
-  number_word = record { some = decimal-some number h; signs = among_wider 0x21 0x7E (omega arith) (omega arith) (decimal-digits number h) }
+  number_word = record { some = decimal_some number h; signs = among_wider 0x21 0x7E (omega arith) (omega arith) (decimal_digits number h) }
 
-  pub head-flat : Among 0x20 0x7E (head_line number)
-  head-flat =
+  pub head_flat : Among 0x20 0x7E (head_line number)
+  head_flat =
       among_append (among_wider 0x20 0x7E (omega arith) (omega arith) (word_signs 27 (omega arith)))
       (more {b = 0x20} (omega arith) (omega arith) (among_wider 0x20 0x7E (omega arith) (omega arith) number_word.signs))
 
@@ -184,8 +184,8 @@ module _ (number : ℕ) (h : number < 256) where
 
   head-told : line_taken 0 (head_line number) ≡ fields 0 2 number false 0 0
   unfolding line_taken words_taken missing word_taken head_word through
-  head-told = rw (head-words, same_self (word_of 27), decimal-back number h, lt-ltb number 256 h, mod-eq_of_lt h)
+  head-told = rw (head-words, same_self (word_of 27), decimal_back number h, lt-ltb number 256 h, mod-eq_of_lt h)
 
-  pub with-head : with_line (taking 0 0 0 0 no_rows) 1 (head_line number) ≡ taking 0 0 1 number no_rows
+  pub with_head : with_line (taking 0 0 0 0 no_rows) 1 (head_line number) ≡ taking 0 0 1 number no_rows
   unfolding with_line stored
-  with-head = rw (no_remark edition_signs (word_word 27 (omega arith)).some, head-told)
+  with_head = rw (no_remark edition_signs (word_word 27 (omega arith)).some, head-told)

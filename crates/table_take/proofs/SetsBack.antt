@@ -16,13 +16,13 @@ use Rattle.ground.specs.Rooms.{decimal}
 use Rattle.ground.proofs.Lists.{true_false}
 use Rattle.table_text.specs.Vocabulary.{vocabulary, word_of}
 use Rattle.table_text.specs.Texts.{has, has_before, first_part, length_part, length_parts, lengths_text}
-use Rattle.table_text.proofs.LengthLaws.{part_none, part-first, part-inside, part-last}
+use Rattle.table_text.proofs.LengthLaws.{part_none, part_first, part_inside, part_last}
 use Rattle.table_take.specs.declared.Listed.{Listed}
 use Rattle.table_take.specs.Splitting.{through}
 use Rattle.table_take.specs.Numbers.{with_byte, number_of}
 use Rattle.table_take.specs.LengthSets.{with_range, item_fault, range_fault, listed, nothing_listed, settled, closed, begun, with_sign, lengths_of}
 use Rattle.table_take.proofs.Signs.{Among, none, more, among_append, among_wider, Word, through_cons, through_append}
-use Rattle.table_take.proofs.Decimals.{decimal-back, decimal-digits}
+use Rattle.table_take.proofs.Decimals.{decimal_back, decimal_digits}
 use Rattle.table_take.proofs.Spelled.{same_self, word_signs}
 
 -- ---- digits make a number
@@ -37,7 +37,7 @@ through_digits (more {b} {bs} lo hi s) x f m = rw (sign_digit x f m b lo) (throu
 
 written : (x f n : ℕ) → n < 32 → through with_sign (listed 0 x f 258) (decimal n) ≡ listed 0 x f n
 unfolding number_of
-written x f n h = through_digits (decimal-digits n (omega arith)) x f 258 ∙ ap (listed 0 x f) (decimal-back n (omega arith))
+written x f n h = through_digits (decimal_digits n (omega arith)) x f 258 ∙ ap (listed 0 x f) (decimal_back n (omega arith))
 
 -- ---- lengths that are added
 or_above : (x a : ℕ) → x < 2 ^ a → bit_or x (2 ^ a) ≡ x + 2 ^ a
@@ -164,9 +164,9 @@ module _ (set n : ℕ) (h : n < 32) where
     where
       go : (q : Bool) → has set n ≡ q → (r : Bool) → has_before set n ≡ r → (t : Bool) → has set (n + 1) ≡ t → At set (suc n) (through with_sign s (length_part set n))
       go false e r f t g = rw (part_none set n e) (step-off e m)
-      go true e false f t g = rw (part-first set n e f) (step-first e f m)
-      go true e true f true g = rw (part-inside set n e f g) (step-inside e f g m)
-      go true e true f false g = rw (part-last set n e f g) (step-last e f g m)
+      go true e false f t g = rw (part_first set n e f) (step-first e f m)
+      go true e true f true g = rw (part_inside set n e f g) (step-inside e f g m)
+      go true e true f false g = rw (part_last set n e f g) (step-last e f g m)
 
 steps : (set k n : ℕ) → n + k ≡ 32 → {s : Listed} → At set n s → At set 32 (through with_sign s (length_parts set n k))
 unfolding length_parts through
@@ -194,7 +194,7 @@ unfolding length_part first_part
 part_signs set n h = go (has set n) (has_before set n) (has set (n + 1)) (eqb (set % 2 ^ n) 0)
   where
     digits : Among 0x2C 0x39 (decimal n)
-    digits = among_wider 0x2C 0x39 (omega arith) (omega arith) (decimal-digits n (omega arith))
+    digits = among_wider 0x2C 0x39 (omega arith) (omega arith) (decimal_digits n (omega arith))
 
     go : (q r t u : Bool) → Among 0x2C 0x39 (cond q (cond r (cond t [] (0x2D ∷ decimal n)) (cond u (decimal n) (0x2C ∷ decimal n))) [])
     go false r t u = none

@@ -15,13 +15,13 @@ use Rattle.table_take.specs.Splitting.{is_blank, is_kind, behind_kind, before, b
 
 -- ---- going through a list
 module _ {A B : Type 0} (f : A → B → A) (d : B) (xs : List B) (i : ℕ) where
-  pub through-next : (a : A) → i < length xs → through f a (drop i xs) ≡ through f (f a (get_or xs i d)) (drop (i + 1) xs)
+  pub through_next : (a : A) → i < length xs → through f a (drop i xs) ≡ through f (f a (get_or xs i d)) (drop (i + 1) xs)
   unfolding through
-  through-next a h = rw (add-one, drop-cons xs i d h)
+  through_next a h = rw (add-one, drop-cons xs i d h)
 
-  pub through-end : (a : A) → length xs ≤ i → through f a (drop i xs) ≡ a
+  pub through_end : (a : A) → length xs ≤ i → through f a (drop i xs) ≡ a
   unfolding through
-  through-end a h = rw (drop_of_length-le xs h)
+  through_end a h = rw (drop_of_length-le xs h)
 
 -- ---- the first line of a text that is not empty
 line_step : (b : ℕ) (bs : List ℕ) → lines bs ≡ take (leading (is_kind Line) bs) bs ∷ lines (drop (suc (leading (is_kind Line) bs)) bs) →
@@ -97,8 +97,8 @@ module _ (line : List ℕ) (at s e : ℕ) (blanks : s ≡ behind_kind Blanks lin
       let t : 0 < leading (is_kind Signs) (drop s line) = omega arith in
       from-word ∙ first_word (drop s line) ∙ rw (some_yes _ t, n, drop-drop, m)
 
-  pub no-word-next : e ≤ s → words (drop at line) ≡ words (drop (e + 1) line)
-  no-word-next h =
+  pub no_word_next : e ≤ s → words (drop at line) ≡ words (drop (e + 1) line)
+  no_word_next h =
       let m : s + suc (leading (is_kind Signs) (drop s line)) ≡ e + 1 = omega arith in
       let t : leading (is_kind Signs) (drop s line) ≤ 0 = omega arith in
       from-word ∙ first_word (drop s line) ∙ rw (some_no _ t, drop-drop, m)
@@ -121,10 +121,10 @@ same_at (x ∷ l) zero a b h = refl
 same_at (x ∷ l) (suc i) a b h = same_at l i a b (omega arith)
 
 module _ (line : List ℕ) (s : ℕ) (is : s ≡ behind_kind Blanks line 0) where
-  pub remark-at : s < length line → eqb (get_or line s 0) 0x23 ≡ is_remark line
+  pub remark_at : s < length line → eqb (get_or line s 0) 0x23 ≡ is_remark line
   unfolding is_remark
-  remark-at h = rw (← is, same_at line s 0x23 0 h)
+  remark_at h = rw (← is, same_at line s 0x23 0 h)
 
-  pub remark-none : length line ≤ s → true ≡ is_remark line
+  pub remark_none : length line ≤ s → true ≡ is_remark line
   unfolding is_remark
-  remark-none h = rw (← is, get_or-eq_default line 0x23 h)
+  remark_none h = rw (← is, get_or-eq_default line 0x23 h)

@@ -8,27 +8,27 @@ use Rattle.table_take.specs.declared.Kind.TheVariants.{Blanks, Signs, Line}
 use Rattle.table_take.specs.declared.Taking.{Taking}
 use Rattle.table_take.specs.Splitting.{behind_kind, lines, words, through}
 use Rattle.table_take.specs.Taking.{with_line, finished, taken_from}
-use Rattle.table_take.proofs.Splits.{word_next, no-word-next, line_next}
+use Rattle.table_take.proofs.Splits.{word_next, no_word_next, line_next}
 
 module _ {A : Type 0} (f : A → List ℕ → A) (got : A) (line : List ℕ) (at : ℕ) where
-  pub word-turn : (s e : ℕ) → s ≡ behind_kind Blanks line at → e ≡ behind_kind Signs line s → s < e
+  pub word_turn : (s e : ℕ) → s ≡ behind_kind Blanks line at → e ≡ behind_kind Signs line s → s < e
       → through f (f got (take (e - s) (drop s line))) (words (drop (e + 1) line)) ≡ through f got (words (drop at line))
   unfolding through
-  word-turn s e blanks signs h = rw (word_next line at s e blanks signs h)
+  word_turn s e blanks signs h = rw (word_next line at s e blanks signs h)
 
-  pub no-word-turn : (s e : ℕ) → s ≡ behind_kind Blanks line at → e ≡ behind_kind Signs line s → e ≤ s
+  pub no_word_turn : (s e : ℕ) → s ≡ behind_kind Blanks line at → e ≡ behind_kind Signs line s → e ≤ s
       → through f got (words (drop (e + 1) line)) ≡ through f got (words (drop at line))
-  no-word-turn s e blanks signs h = rw (no-word-next line at s e blanks signs h)
+  no_word_turn s e blanks signs h = rw (no_word_next line at s e blanks signs h)
 
-  pub words-over : length line ≤ at → through f got (words (drop at line)) ≡ got
+  pub words_over : length line ≤ at → through f got (words (drop at line)) ≡ got
   unfolding through words
-  words-over h = rw (drop_of_length-le line h)
+  words_over h = rw (drop_of_length-le line h)
 
 module _ (state : Taking) (n : ℕ) (text : List ℕ) (at : ℕ) where
-  pub line-turn : (e : ℕ) → at < length text → e ≡ behind_kind Line text at
+  pub line_turn : (e : ℕ) → at < length text → e ≡ behind_kind Line text at
       → taken_from (with_line state n (take (e - at) (drop at text))) (n + 1) (lines (drop (e + 1) text)) ≡ taken_from state n (lines (drop at text))
   unfolding taken_from
-  line-turn e h is = rw (line_next text at e h is, add-one n)
+  line_turn e h is = rw (line_next text at e h is, add-one n)
 
   pub lines_over : length text ≤ at → taken_from state n (lines (drop at text)) ≡ finished state n
   unfolding taken_from lines

@@ -44,17 +44,17 @@ module _ (set n : ℕ) where
   unfolding length_part
   part_none h = rw h
 
-  pub part-first : has set n ≡ true → has_before set n ≡ false → length_part set n ≡ first_part set n
+  pub part_first : has set n ≡ true → has_before set n ≡ false → length_part set n ≡ first_part set n
   unfolding length_part
-  part-first h b = rw (h, b)
+  part_first h b = rw (h, b)
 
-  pub part-inside : has set n ≡ true → has_before set n ≡ true → has set (n + 1) ≡ true → length_part set n ≡ []
+  pub part_inside : has set n ≡ true → has_before set n ≡ true → has set (n + 1) ≡ true → length_part set n ≡ []
   unfolding length_part
-  part-inside h b a = rw (h, b, a)
+  part_inside h b a = rw (h, b, a)
 
-  pub part-last : has set n ≡ true → has_before set n ≡ true → has set (n + 1) ≡ false → length_part set n ≡ 0x2D ∷ decimal n
+  pub part_last : has set n ≡ true → has_before set n ≡ true → has set (n + 1) ≡ false → length_part set n ≡ 0x2D ∷ decimal n
   unfolding length_part
-  part-last h b a = rw (h, b, a)
+  part_last h b a = rw (h, b, a)
 
 -- nothing put
 pub put_none : {room bytes : List ℕ} {at : ℕ} → bytes ≡ [] → Put room at bytes room at

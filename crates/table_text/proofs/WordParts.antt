@@ -55,25 +55,25 @@ unfolding is_low yes_to vocabulary
 lows = refl
 
 module _ (i : ℕ) (h : i < 29) where
-  pub word-part : take (start_of (i + 1) - start_of i) (drop (start_of i) all) ≡ word_of i
+  pub word_part : take (start_of (i + 1) - start_of i) (drop (start_of i) all) ≡ word_of i
   unfolding is_part yes_to
-  word-part = rw (add-one) (same_equal _ _ (alike_below_lem is_part yes_to 29 parts i h))
+  word_part = rw (add-one) (same_equal _ _ (alike_below_lem is_part yes_to 29 parts i h))
 
   pub word_after : start_of i ≤ start_of (i + 1)
   unfolding is_after yes_to
   word_after = rw (add-one) (leb-true _ _ (alike_below_lem is_after yes_to 29 afters i h))
 
-  pub word-within : start_of (i + 1) ≤ 226
+  pub word_within : start_of (i + 1) ≤ 226
   unfolding is_within yes_to
-  word-within = rw (add-one) (leb-true _ _ (alike_below_lem is_within yes_to 29 withins i h))
+  word_within = rw (add-one) (leb-true _ _ (alike_below_lem is_within yes_to 29 withins i h))
 
-  pub word-short : start_of (i + 1) ≤ start_of i + 16
+  pub word_short : start_of (i + 1) ≤ start_of i + 16
   unfolding is_short yes_to
-  word-short = rw (add-one) (leb-true _ _ (alike_below_lem is_short yes_to 29 shorts i h))
+  word_short = rw (add-one) (leb-true _ _ (alike_below_lem is_short yes_to 29 shorts i h))
 
-  pub word-length : length (word_of i) ≤ 16
+  pub word_length : length (word_of i) ≤ 16
   unfolding is_low yes_to
-  word-length = leb-true _ _ (alike_below_lem is_low yes_to 29 lows i h)
+  word_length = leb-true _ _ (alike_below_lem is_low yes_to 29 lows i h)
 
 -- past the last word there is none
 pub no_word : (i : ℕ) → 29 ≤ i → word_of i ≡ []

@@ -54,28 +54,28 @@ shallow_head s at d =
 
 -- ---- the head by its tests
 module _ (s : List ℕ) (at d : ℕ) where
-  pub head-bad : bad_tag (get_or s 0 0) ≡ true → head_at s at d ≡ Refused 50 at
+  pub head_bad : bad_tag (get_or s 0 0) ≡ true → head_at s at d ≡ Refused 50 at
   unfolding head_at
-  head-bad e = rw e
+  head_bad e = rw e
 
   module _ (good : bad_tag (get_or s 0 0) ≡ false) where
-    pub head-deep : 6 < d → head_at s at d ≡ Refused 53 at
+    pub head_deep : 6 < d → head_at s at d ≡ Refused 53 at
     unfolding head_at
-    head-deep e = rw (good, lt-ltb 6 d e)
+    head_deep e = rw (good, lt-ltb 6 d e)
 
     module _ (flat : d ≤ 6) where
-      pub head-field : ((field_behind s).number ≡ 0 → ⊥) → head_at s at d ≡ Refused 51 (at + 1)
+      pub head_field : ((field_behind s).number ≡ 0 → ⊥) → head_at s at d ≡ Refused 51 (at + 1)
       unfolding head_at
-      head-field e = rw (good, le-ltb 6 d flat, ne_eqb (field_behind s).number 0 e)
+      head_field e = rw (good, le-ltb 6 d flat, ne_eqb (field_behind s).number 0 e)
 
       pub head_long : (field_behind s).number ≡ 0 → length s - ((field_behind s).used + 1) < (field_behind s).length → head_at s at d ≡ Refused 52 at
       unfolding head_at
       head_long e h = rw (good, le-ltb 6 d flat, eq-eqb (field_behind s).number 0 e, lt-ltb _ _ h)
 
-      pub head-object : (field_behind s).number ≡ 0 → (field_behind s).length ≤ length s - ((field_behind s).used + 1)
+      pub head_object : (field_behind s).number ≡ 0 → (field_behind s).length ≤ length s - ((field_behind s).used + 1)
           → head_at s at d ≡ Object (get_or s 0 0) ((field_behind s).used + 1) (field_behind s).length
       unfolding head_at
-      head-object e h = rw (good, le-ltb 6 d flat, eq-eqb (field_behind s).number 0 e, le-ltb _ _ h)
+      head_object e h = rw (good, le-ltb 6 d flat, eq-eqb (field_behind s).number 0 e, le-ltb _ _ h)
 
 -- the field lies behind the tag
 pub field_behind_lem : (s : List ℕ) → (field_behind s).number ≡ 0 → 0 < length s → (field_behind s).used + 1 ≤ length s

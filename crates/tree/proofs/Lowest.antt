@@ -16,7 +16,7 @@ use Rattle.tree.specs.Heads.{bad_tag, is_list, head_at}
 use Rattle.tree.specs.Listing.{entry, Out, took, refused, above, before, and_then, listing}
 use Rattle.tree.proofs.Listings.{list_none, list_more}
 use Rattle.tree.specs.Faults.{Fault, bad-tag, too-deep, bad-field, too_long, inner, later, Before}
-use Rattle.tree.proofs.Steps.{object-refused, object-plain, object-inner}
+use Rattle.tree.proofs.Steps.{object_refused, object_plain, object_inner}
 use Rattle.tree.specs.Trees.{Judged}
 use Rattle.tree.proofs.Behind.{field_in, told_read, read_told}
 
@@ -31,27 +31,27 @@ from (later n u e h f) = omega (arith, from f)
 
 -- .. and before its end, or at the end where a length field is missing
 pub record Ends (at : ℕ) (s : List ℕ) (y q : ℕ) : Type 0 where
-  pub at-most : q ≤ at + length s
+  pub at_most : q ≤ at + length s
   pub within : (y ≡ 51 → ⊥) → q < at + length s
 
 value_length : (b : ℕ) (r : List ℕ) (n u : ℕ) → u ≤ length r → n ≤ length (b ∷ r) - (u + 1) → length (take n (drop (u + 1) (b ∷ r))) ≡ n
 value_length b r n u h g = length-take-le n (drop (u + 1) (b ∷ r)) (omega (arith, length-drop (u + 1) (b ∷ r)))
 
 pub ends : {d at : ℕ} {s : List ℕ} {y q : ℕ} → Fault d at s y q → Ends at s y q
-ends (bad-tag e i j) = record { at-most = omega arith; within = λ _. omega arith }
-ends (too-deep e i j) = record { at-most = omega arith; within = λ _. omega arith }
-ends (bad-field e i j) = record { at-most = omega arith; within = λ k. absurd (k i) }
-ends (too_long n u e h i j) = record { at-most = omega arith; within = λ _. omega arith }
+ends (bad-tag e i j) = record { at_most = omega arith; within = λ _. omega arith }
+ends (too-deep e i j) = record { at_most = omega arith; within = λ _. omega arith }
+ends (bad-field e i j) = record { at_most = omega arith; within = λ k. absurd (k i) }
+ends (too_long n u e h i j) = record { at_most = omega arith; within = λ _. omega arith }
 ends {d} {at} {s = b ∷ r} (inner n u e h i f) =
     let k = field_in r n u e in
     let l = value_length b r n u k.1 h in
     let w = ends f in
-    record { at-most = omega (arith, w.at-most); within = λ g. omega (arith, w.within g) }
+    record { at_most = omega (arith, w.at_most); within = λ g. omega (arith, w.within g) }
 ends {d} {at} {s = b ∷ r} (later n u e h f) =
     let k = field_in r n u e in
     let l = length-drop (u + 1 + n) (b ∷ r) in
     let w = ends f in
-    record { at-most = omega (arith, w.at-most); within = λ g. omega (arith, w.within g) }
+    record { at_most = omega (arith, w.at_most); within = λ g. omega (arith, w.within g) }
 
 never : {A : Type 0} → true ≡ false → A
 never e = absurd (let z : ◌≡◌ {A = ℕ} 0 1 = cc in omega arith)
@@ -152,7 +152,7 @@ judged_none d at = rw (list_none d at) (λ y q f. absurd (not-suc-le-zero (some 
 judged_refused : (d at b : ℕ) (r : List ℕ) (x p : ℕ) → head_at (b ∷ r) at d ≡ H.Refused x p → Fault d at (b ∷ r) x p
     → ((y q : ℕ) → Fault d at (b ∷ r) y q → Before x p y q) → Judged d at (b ∷ r) (listing d at (b ∷ r))
 judged_refused d at b r x p e f first =
-    let k : listing d at (b ∷ r) ≡ refused x p = list_more d at (b ∷ r) (omega arith) ∙ rw (object-refused d at (b ∷ r) x p e) in
+    let k : listing d at (b ∷ r) ≡ refused x p = list_more d at (b ∷ r) (omega arith) ∙ rw (object_refused d at (b ∷ r) x p e) in
     rw k (f, first)
 
 module _ (d at b : ℕ) (r : List ℕ) (good : bad_tag b ≡ false) (flat : d ≤ 6) (n u : ℕ) (e : length_read r ≡ L.Read n u) (h : n ≤ length (b ∷ r) - (u + 1)) where
@@ -181,15 +181,15 @@ module _ (d at b : ℕ) (r : List ℕ) (good : bad_tag b ≡ false) (flat : d �
       let w = ends j1.0 in (
         inner n u e h node j1.0,
         λ y q f. apart d at b r good flat n u e y q h (λ i g. j1.1 y q g)
-            (λ g. inside_first x p y q (at + (u + 1 + n)) (omega (arith, w.at-most)) (λ v. omega (arith, w.within v)) (from g)) f,
+            (λ g. inside_first x p y q (at + (u + 1 + n)) (omega (arith, w.at_most)) (λ v. omega (arith, w.within v)) (from g)) f,
       )
 
   judged-object : Judged (suc d) (at + (u + 1)) value (listing (suc d) (at + (u + 1)) value) → Judged d (at + (u + 1 + n)) rest (listing d (at + (u + 1 + n)) rest)
       → (q : Bool) → is_list b ≡ q → Judged d at (b ∷ r) (listing d at (b ∷ r))
   judged-object j1 j2 false leaf =
-      rw (list_more d at (b ∷ r) (omega arith), object-plain d at (b ∷ r) b (u + 1) n (h-object d at b r good flat n u e h) leaf) (on-plain leaf (goes_on (u + 1 + n)) refl j2)
+      rw (list_more d at (b ∷ r) (omega arith), object_plain d at (b ∷ r) b (u + 1) n (h-object d at b r good flat n u e h) leaf) (on-plain leaf (goes_on (u + 1 + n)) refl j2)
   judged-object j1 j2 true node =
-      rw (list_more d at (b ∷ r) (omega arith), object-inner d at (b ∷ r) b (u + 1) n (h-object d at b r good flat n u e h) node)
+      rw (list_more d at (b ∷ r) (omega arith), object_inner d at (b ∷ r) b (u + 1) n (h-object d at b r good flat n u e h) node)
       (on-template node (listing (suc d) (at + (u + 1)) value) (goes_on (u + 1 + n)) refl j1 j2)
 
 -- the tests in turn
@@ -220,15 +220,15 @@ module _ (f d at b : ℕ) (r : List ℕ) (short : length r ≤ f) (all : (d at :
       judged_refused d at b r 53 at (h53 d at b r good h) (too-deep h refl refl) (first53 d at b r good)
   by-depth good false k = by_field good (ltb-false 6 d k) (eqb (length_told (length_read r)).number 0) refl
 
-  by-tag : (q : Bool) → bad_tag b ≡ q → Judged d at (b ∷ r) (listing d at (b ∷ r))
-  by-tag true k = judged_refused d at b r 50 at (h50 d at b r k) (bad-tag k refl refl) (first50 d at b r)
-  by-tag false k = by-depth k (ltb 6 d) refl
+  by_tag : (q : Bool) → bad_tag b ≡ q → Judged d at (b ∷ r) (listing d at (b ∷ r))
+  by_tag true k = judged_refused d at b r 50 at (h50 d at b r k) (bad-tag k refl refl) (first50 d at b r)
+  by_tag false k = by-depth k (ltb 6 d) refl
 
 judged_at : (f d at : ℕ) (s : List ℕ) → length s ≤ f → Judged d at s (listing d at s)
 judged_at zero d at [] p = judged_none d at
 judged_at zero d at (b ∷ r) p = absurd (not-suc-le-zero p)
 judged_at (suc f) d at [] p = judged_none d at
-judged_at (suc f) d at (b ∷ r) p = by-tag f d at b r (omega arith) (judged_at f) (bad_tag b) refl
+judged_at (suc f) d at (b ∷ r) p = by_tag f d at b r (omega arith) (judged_at f) (bad_tag b) refl
 
 -- the refusal is the fault with the lowest address, 51 first there and then 50, 53, 52; where nothing is refused there is no fault
 pub judged : (d at : ℕ) (s : List ℕ) → Judged d at s (listing d at s)

@@ -11,7 +11,7 @@ use Rattle.lengths.specs.Lengths.{length_field}
 use Rattle.tree.specs.Forest.{Forest, done, plain, template, front, encode, entries, Valid, values}
 use Rattle.lengths.proofs.Laws.{field_size}
 use Rattle.tree.proofs.Sound.{sound}
-use Rattle.tree.proofs.Complete.{behind, value-is, rest-is, all-is}
+use Rattle.tree.proofs.Complete.{behind, value_is, rest_is, all_is}
 use Rattle.tree.specs.Trees.{Below, Span, plain_of}
 
 span_from : (lo mid hi : ℕ) (es : List Entry) → lo ≤ mid → Span mid hi es → Span lo hi es
@@ -29,12 +29,12 @@ unfolding Span encode entries
 span_entries d at done = omega arith
 span_entries d at (plain t v r) =
     let u = front (length v) + length v in
-    let e : at + length (t ∷ (length_field (length v) ++ (v ++ encode r))) ≡ at + u + length (encode r) = omega (arith, all-is t (length v) v (encode r) refl) in
+    let e : at + length (t ∷ (length_field (length v) ++ (v ++ encode r))) ≡ at + u + length (encode r) = omega (arith, all_is t (length v) v (encode r) refl) in
     rw e (omega arith, span_from (suc at) (at + u) (at + u + length (encode r)) (entries d (at + u) r) (omega arith) (span_entries d (at + u) r))
 span_entries d at (template t i r) =
     let n = length (encode i) in
     let u = front n + n in
-    let e : at + length (t ∷ (length_field n ++ (encode i ++ encode r))) ≡ at + u + length (encode r) = omega (arith, all-is t n (encode i) (encode r) refl) in
+    let e : at + length (t ∷ (length_field n ++ (encode i ++ encode r))) ≡ at + u + length (encode r) = omega (arith, all_is t n (encode i) (encode r) refl) in
     let g : at + u ≡ at + front n + n = omega arith in
     rw e (
       omega arith,
@@ -57,13 +57,13 @@ two_each d at done = omega arith
 two_each d at (plain t v r) =
     let h = two_each d (at + (front (length v) + length v)) r in
     let k = field_some (length v) in
-    omega (arith, all-is t (length v) v (encode r) refl)
+    omega (arith, all_is t (length v) v (encode r) refl)
 two_each d at (template t i r) =
     let n = length (encode i) in
     let h = two_each d (at + (front n + n)) r in
     let g = two_each (suc d) (at + front n) i in
     let k = field_some n in
-    simp length-append (omega (arith, all-is t n (encode i) (encode r) refl))
+    simp length-append (omega (arith, all_is t n (encode i) (encode r) refl))
 
 pub plain_append : (b : List ℕ) (es fs : List Entry) → plain_of b (es ++ fs) ≡ plain_of b es ++ plain_of b fs
 unfolding plain_of
@@ -77,14 +77,14 @@ plain_values b d at done post e w = refl
 plain_values b d at (plain t v r) post e w =
     let n = length v in
     let g : drop at b ≡ t ∷ (length_field n ++ (v ++ (encode r ++ post))) = e ∙ simp append_assoc in
-    let h : take n (drop (at + front n) b) ≡ v = rw (← drop-drop (front n) at b, g) (value-is t n v (encode r ++ post) refl) in
-    let k : drop (at + (front n + n)) b ≡ encode r ++ post = rw (← drop-drop (front n + n) at b, g) (rest-is t n v (encode r ++ post) refl) in
+    let h : take n (drop (at + front n) b) ≡ v = rw (← drop-drop (front n) at b, g) (value_is t n v (encode r ++ post) refl) in
+    let k : drop (at + (front n + n)) b ≡ encode r ++ post = rw (← drop-drop (front n + n) at b, g) (rest_is t n v (encode r ++ post) refl) in
     rw (w.0.1, h, plain_values b d (at + (front n + n)) r post k w.1)
 plain_values b d at (template t i r) post e w =
     let n = length (encode i) in
     let g : drop at b ≡ t ∷ (length_field n ++ (encode i ++ (encode r ++ post))) = e ∙ simp append_assoc in
     let h : drop (at + front n) b ≡ encode i ++ (encode r ++ post) = rw (← drop-drop (front n) at b, g) (behind t n (encode i) (encode r ++ post) refl) in
-    let k : drop (at + (front n + n)) b ≡ encode r ++ post = rw (← drop-drop (front n + n) at b, g) (rest-is t n (encode i) (encode r ++ post) refl) in
+    let k : drop (at + (front n + n)) b ≡ encode r ++ post = rw (← drop-drop (front n + n) at b, g) (rest_is t n (encode i) (encode r ++ post) refl) in
     rw (
       w.0.1,
       plain_append b (entries (suc d) (at + front n) i) (entries d (at + (front n + n)) r),

@@ -15,7 +15,7 @@ use Rattle.tree.proofs.Inside.{Inside, inside_head}
 use Rattle.tree.specs.Listing.{Entry, entry, Out, took, refused, above, before, and_then, listing, object}
 use Rattle.tree.proofs.Listings.{list_none, list_more}
 use Rattle.tree.specs.Forest.{done, plain, template, encode, entries, Valid}
-use Rattle.tree.proofs.Steps.{object-refused, object-plain, object-inner}
+use Rattle.tree.proofs.Steps.{object_refused, object_plain, object_inner}
 use Rattle.tree.proofs.Behind.{below_drop, below_take}
 use Rattle.tree.proofs.Written.{Begins, BeginsIf, begins}
 use Rattle.tree.specs.Trees.{Below, Tree}
@@ -80,16 +80,16 @@ module _ (f : ℕ) (all : (d at : ℕ) (s : List ℕ) (es : List Entry) (u : ℕ
 
   on-head : (h : Head) → head_at s at d ≡ h → Inside s h → BeginsIf s d h → and_then (object d at s) (λ v. listing d (at + v) (drop v s)) ≡ took es u → Tree d at s es
   on-head (H.Refused x p) e w b k =
-      let k2 : refused x p ≡ took es u = rw (object-refused d at s x p e) at k in
+      let k2 : refused x p ≡ took es u = rw (object_refused d at s x p e) at k in
       absurd (let z : ◌≡◌ {A = ℕ} 0 1 = cc in omega arith)
   on-head (H.Object t start n) e w b k = by (is_list t) refl
     where
       by : (q : Bool) → is_list t ≡ q → Tree d at s es
       by false leaf =
-          on-plain t start n b w.0 w.1 leaf (listing d (at + (start + n)) (drop (start + n) s)) refl (rw (object-plain d at s t start n e leaf) at k)
+          on-plain t start n b w.0 w.1 leaf (listing d (at + (start + n)) (drop (start + n) s)) refl (rw (object_plain d at s t start n e leaf) at k)
       by true node =
           on-template t start n b w.0 w.1 node (listing (suc d) (at + start) (take n (drop start s))) refl (listing d (at + (start + n)) (drop (start + n) s)) refl
-          (rw (object-inner d at s t start n e node) at k)
+          (rw (object_inner d at s t start n e node) at k)
 
 empty : (d at : ℕ) (es : List Entry) (u : ℕ) → listing d at [] ≡ took es u → Tree d at [] es
 empty d at es u e =

@@ -26,18 +26,18 @@ drop_past (b ∷ r) (suc p) h = drop_past r p (le_of_suc-le-suc h)
 
 -- one object
 module _ (d at : ℕ) (s : List ℕ) where
-  pub object-refused : (x p : ℕ) → head_at s at d ≡ H.Refused x p → object d at s ≡ refused x p
+  pub object_refused : (x p : ℕ) → head_at s at d ≡ H.Refused x p → object d at s ≡ refused x p
   unfolding object
-  object-refused x p e = rw e
+  object_refused x p e = rw e
 
-  pub object-plain : (t start n : ℕ) → head_at s at d ≡ H.Object t start n → is_list t ≡ false → object d at s ≡ took (entry t d at n ∷ []) (start + n)
+  pub object_plain : (t start n : ℕ) → head_at s at d ≡ H.Object t start n → is_list t ≡ false → object d at s ≡ took (entry t d at n ∷ []) (start + n)
   unfolding object
-  object-plain t start n e b = rw (e, b)
+  object_plain t start n e b = rw (e, b)
 
-  pub object-inner : (t start n : ℕ) → head_at s at d ≡ H.Object t start n → is_list t ≡ true
+  pub object_inner : (t start n : ℕ) → head_at s at d ≡ H.Object t start n → is_list t ≡ true
       → object d at s ≡ above (entry t d at n) (start + n) (listing (suc d) (at + start) (take n (drop start s)))
   unfolding object
-  object-inner t start n e b = rw (e, b)
+  object_inner t start n e b = rw (e, b)
 
 pub done_refused : (k : ℕ) (o : Out) (room after : List ℕ) (x p : ℕ) → o ≡ refused x p → Done k o (S.Refused x p) room after
 unfolding scanned Stored
@@ -171,15 +171,15 @@ module _ (d at : ℕ) (s : List ℕ) (k : ℕ) (room₀ : List ℕ) where
       let q : refused y b ≡ refused x a = cc in
       w.sofar ∙ ap (before w.es p) (next d at s p h) ∙ rw e q
 
-  pub partly-stop : (p n : ℕ) (room : List ℕ) → Partly d at s k room₀ p n room → p < length s
+  pub partly_stop : (p n : ℕ) (room : List ℕ) → Partly d at s k room₀ p n room → p < length s
       → (r : Scan) (after : List ℕ) (x a : ℕ) → Done n (object d (at + p) (drop p s)) r room after → r ≡ S.Refused x a
       → Done k (listing d at s) (S.Refused x a) room₀ after
-  partly-stop p n room w h r after x a done f =
+  partly_stop p n room w h r after x a done f =
       done_refused k (listing d at s) room₀ after x a (stop p n room w h r after x a (object d (at + p) (drop p s)) refl done f)
 
   -- nothing is left
-  pub partly-end : (p n : ℕ) (room : List ℕ) → Partly d at s k room₀ p n room → length s ≤ p → Done k (listing d at s) (S.Took n p) room₀ room
+  pub partly_end : (p n : ℕ) (room : List ℕ) → Partly d at s k room₀ p n room → length s ≤ p → Done k (listing d at s) (S.Took n p) room₀ room
   unfolding scanned Stored
-  partly-end p n room w h =
+  partly_end p n room w h =
       let e : listing d at s ≡ took w.es p = w.sofar ∙ rw (drop_past s p h, list_none d (at + p), append-nil, add-zero) in
       rw e (record { answer = ap (λ (x : ℕ). S.Took x p) w.count; stored = w.stored })

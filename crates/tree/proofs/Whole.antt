@@ -56,15 +56,15 @@ module _ (s room : List ℕ) where
       → (a ≡ tree_answer s room) × (l ≡ tree_room s room)
   both {o} h e w = (w.0 ∙ sym (by h o e).0, w.1 ∙ sym (by h o e).1)
 
-  pub tree-refused : length s ≤ 4096 → (x p : ℕ) → S.Refused x p ≡ scanned 0 (listing 1 0 s) → (refuse x p ≡ tree_answer s room) × (room ≡ tree_room s room)
-  tree-refused h x p e = both h refl (on-refused (listing 1 0 s) x p e)
+  pub tree_refused : length s ≤ 4096 → (x p : ℕ) → S.Refused x p ≡ scanned 0 (listing 1 0 s) → (refuse x p ≡ tree_answer s room) × (room ≡ tree_room s room)
+  tree_refused h x p e = both h refl (on-refused (listing 1 0 s) x p e)
 
-  pub tree-small : length s ≤ 4096 → (k u : ℕ) → S.Took k u ≡ scanned 0 (listing 1 0 s) → length room < k → (refuse 55 0 ≡ tree_answer s room) × (room ≡ tree_room s room)
-  tree-small h k u e g = both h refl (on-small (listing 1 0 s) k u e g)
+  pub tree_small : length s ≤ 4096 → (k u : ℕ) → S.Took k u ≡ scanned 0 (listing 1 0 s) → length room < k → (refuse 55 0 ≡ tree_answer s room) × (room ≡ tree_room s room)
+  tree_small h k u e g = both h refl (on-small (listing 1 0 s) k u e g)
 
-  pub tree-listed : length s ≤ 4096 → (k u : ℕ) → S.Took k u ≡ scanned 0 (listing 1 0 s) → k ≤ length room → (r : Scan) (after : List ℕ) → Done 0 (listing 1 0 s) r room after
+  pub tree_listed : length s ≤ 4096 → (k u : ℕ) → S.Took k u ≡ scanned 0 (listing 1 0 s) → k ≤ length room → (r : Scan) (after : List ℕ) → Done 0 (listing 1 0 s) r room after
       → (listed (k / 4) ≡ tree_answer s room) × (after ≡ tree_room s room)
-  tree-listed h k u e g r after done = both h refl (on-listed (listing 1 0 s) k u e g r after done)
+  tree_listed h k u e g r after done = both h refl (on-listed (listing 1 0 s) k u e g r after done)
 
   -- four words for an object, which takes at least a byte
   few : (o : Out) (k u : ℕ) → S.Took k u ≡ scanned 0 o → Sized s o → k ≤ 4 * length s
@@ -91,6 +91,6 @@ module _ (s room : List ℕ) where
   fits-size true = omega arith
   fits-size false = fits_out (listing 1 0 s)
 
-  pub listed-fits : (tree_answer s room).count * 4 ≤ length room
+  pub listed_fits : (tree_answer s room).count * 4 ≤ length room
   unfolding tree_answer
-  listed-fits = fits-size (ltb 4096 (length s))
+  listed_fits = fits-size (ltb 4096 (length s))

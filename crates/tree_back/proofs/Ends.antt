@@ -48,8 +48,8 @@ module _ (ws vs room : List ℕ) (r : BackAnswer) where
       size : n ≡ length (take n after)
       size = (made_at (glue 4100 0 ws vs) k w).1.0
 
-      pub in-scratch : n ≤ length sc
-      in-scratch = (made_at (glue 4100 0 ws vs) k w).1.1
+      pub in_scratch : n ≤ length sc
+      in_scratch = (made_at (glue 4100 0 ws vs) k w).1.1
 
       pub at_other : same_tree (take n after) ws ≡ false → r ≡ backed 56 0 → Back ws vs room r room
       at_other f a =
@@ -65,5 +65,5 @@ module _ (ws vs room : List ℕ) (r : BackAnswer) where
         pub at_small : length room < n → r ≡ backed 55 0 → Back ws vs room r room
         at_small h a = small (take n after) those (omega (arith, size)) a refl
 
-        pub at-wrote : n ≤ length room → (last : List ℕ) → last ≡ sets room 0 (take n after) → r ≡ backed 0 n → Back ws vs room r last
-        at-wrote h last e a = wrote (take n after) those (omega (arith, size)) (a ∙ ap (backed 0) size) e
+        pub at_wrote : n ≤ length room → (last : List ℕ) → last ≡ sets room 0 (take n after) → r ≡ backed 0 n → Back ws vs room r last
+        at_wrote h last e a = wrote (take n after) those (omega (arith, size)) (a ∙ ap (backed 0) size) e

@@ -22,9 +22,9 @@ use Rattle.tree.proofs.Whole.{listed}
 use Rattle.tree.proofs.Sound.{sound}
 use Rattle.tree.proofs.Order.{plain_values}
 use Rattle.tree_back.specs.Glue.{value_size, object_bytes, fits, Glue, glued, none, prepend, glue, same_tree}
-use Rattle.tree_back.proofs.Putting.{bytes-size}
+use Rattle.tree_back.proofs.Putting.{bytes_size}
 use Rattle.tree_back.proofs.Sofar.{fits_in}
-use Rattle.tree_back.proofs.WritesBack.{glue_entries, room-is}
+use Rattle.tree_back.proofs.WritesBack.{glue_entries, room_is}
 use Rattle.tree.specs.Trees.{Below, plain_of}
 use Rattle.tree_back.specs.Sources.{Those}
 
@@ -113,7 +113,7 @@ glue_tells cap p (t ∷ d ∷ a ∷ n ∷ ws) vs xs b e h =
     let j = split cap p t n ws xs b d a h in
     let f = fits_in cap p t n vs k.ok in
     let g = fits_in cap p t n xs j.ok in
-    let l : length (object_bytes t n vs) ≡ length (object_bytes t n xs) = bytes-size cap p t n vs f.enough ∙ sym (bytes-size cap p t n xs g.enough) in
+    let l : length (object_bytes t n vs) ≡ length (object_bytes t n xs) = bytes_size cap p t n vs f.enough ∙ sym (bytes_size cap p t n xs g.enough) in
     let r = same_front (object_bytes t n vs) (object_bytes t n xs) k.rest j.rest l (sym k.is ∙ j.is) in
     let gj : glue cap (p + length (object_bytes t n vs)) ws (drop m xs) ≡ glued k.rest = rw (l, r.1) j.glues in
     let i = glue_tells cap (p + length (object_bytes t n vs)) ws (drop m vs) (drop m xs) k.rest k.glues gj in
@@ -139,7 +139,7 @@ module _ (b ws room : List ℕ) (big : length room ≡ 8192) where
   lists-room es u e h true r k = refused-not 55 0 room (λ z. omega arith) k
   lists-room es u e h false r k =
       let f : 4 * length es ≤ length room = ltb-false (length room) (4 * length es) r in
-      record { short = h; es = es; used = u; listed = e; are_words = sym (room-is b es u h e room f) ∙ same_equal (take (length es * 4) (sets room 0 (words es))) ws k }
+      record { short = h; es = es; used = u; listed = e; are_words = sym (room_is b es u h e room f) ∙ same_equal (take (length es * 4) (sets room 0 (words es))) ws k }
 
   lists-out : (o : Out) → listing 1 0 b ≡ o → Numbered o → length b ≤ 4096 → Same (answered o (length room)) (filled o room) ≡ true → Lists b ws
   unfolding answered filled
@@ -170,4 +170,4 @@ only_those ws vs b w v e s =
     let wf : words (entries 1 0 f) ≡ ws = ap words t.list ∙ l.are_words in
     let g = rw (append-nil, append-nil, wf, t.bytes) at (glue_entries 0 1 0 f [] [] t.valid (rw t.bytes ok) (rw t.bytes (omega (arith, l.short)))) in
     let g2 : glue 4100 0 ws (values f) ≡ glued b = g ∙ end b in
-    record { short = l.short; bytes = ok; es = l.es; used = l.used; listed = l.listed; are_words = l.are_words; are-values = pv ∙ glue_tells 4100 0 ws (values f) vs b g2 e }
+    record { short = l.short; bytes = ok; es = l.es; used = l.used; listed = l.listed; are_words = l.are_words; are_values = pv ∙ glue_tells 4100 0 ws (values f) vs b g2 e }

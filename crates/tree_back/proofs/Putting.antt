@@ -19,9 +19,9 @@ module _ (cap p t n : ℕ) (vs : List ℕ) where
   unfolding fits
   no_tag h = rw (lt-leb t 255 h)
 
-  pub no-values : t ≤ 255 → length vs < value_size t n → fits cap p t n vs ≡ false
+  pub no_values : t ≤ 255 → length vs < value_size t n → fits cap p t n vs ≡ false
   unfolding fits
-  no-values h g = rw (le-leb t 255 h, lt-leb (value_size t n) (length vs) g)
+  no_values h g = rw (le-leb t 255 h, lt-leb (value_size t n) (length vs) g)
 
   pub no_room : t ≤ 255 → value_size t n ≤ length vs → cap < p + 4 + value_size t n → fits cap p t n vs ≡ false
   unfolding fits
@@ -31,13 +31,13 @@ module _ (cap p t n : ℕ) (vs : List ℕ) where
   unfolding fits
   fit h g k = rw (le-leb t 255 h, le-leb (value_size t n) (length vs) g, le-leb (p + 4 + value_size t n) cap k)
 
-  pub not-put : (l after : List ℕ) → fits cap p t n vs ≡ false → (S.No ≡ step_of cap p t n vs) × (fits cap p t n vs ≡ true → after ≡ sets l p (object_bytes t n vs))
+  pub not_put : (l after : List ℕ) → fits cap p t n vs ≡ false → (S.No ≡ step_of cap p t n vs) × (fits cap p t n vs ≡ true → after ≡ sets l p (object_bytes t n vs))
   unfolding step_of
-  not-put l after e = (rw e, λ h. let z : true ≡ false = sym h ∙ e in absurd (let y : ◌≡◌ {A = ℕ} 0 1 = cc in omega arith))
+  not_put l after e = (rw e, λ h. let z : true ≡ false = sym h ∙ e in absurd (let y : ◌≡◌ {A = ℕ} 0 1 = cc in omega arith))
 
-  pub bytes-size : value_size t n ≤ length vs → length (object_bytes t n vs) ≡ 1 + length (length_field n) + value_size t n
+  pub bytes_size : value_size t n ≤ length vs → length (object_bytes t n vs) ≡ 1 + length (length_field n) + value_size t n
   unfolding object_bytes
-  bytes-size h = simp (length-append, length-take-le (value_size t n) vs h) (omega arith)
+  bytes_size h = simp (length-append, length-take-le (value_size t n) vs h) (omega arith)
 
   pub put : (l l2 after : List ℕ) (m start end : ℕ) → m ≡ value_size t n → t ≤ 255 → m ≤ length vs → p + 4 + m ≤ cap
       → Put (set l p t) (p + 1) (length_field n) l2 start → Put l2 start (take m vs) after end
@@ -46,7 +46,7 @@ module _ (cap p t n : ℕ) (vs : List ℕ) where
   put l l2 after m start end e h1 h2 h3 a b =
       let k : value_size t n ≤ length vs = omega arith in
       let z : length (take m vs) ≡ m = length-take-le m vs h2 in
-      let s : end - p ≡ length (t ∷ (length_field n ++ take (value_size t n) vs)) = omega (arith, bytes-size k, a.place, b.place) in (
+      let s : end - p ≡ length (t ∷ (length_field n ++ take (value_size t n) vs)) = omega (arith, bytes_size k, a.place, b.place) in (
         rw (fit h1 k (omega arith), s, e),
         λ _.
             b.stored ∙ ap (λ (x : ℕ). sets l2 start (take x vs)) e

@@ -19,7 +19,7 @@ use Rattle.tree.proofs.Words.{length_words}
 use Rattle.tree_back.specs.declared.BackAnswer.{BackAnswer}
 use Rattle.tree_back.specs.Sources.{Those, backed, Back, wrote, small, none-such}
 use Rattle.tree_back.specs.Glue.{glued}
-use Rattle.tree_back.proofs.WritesBack.{room-is, writes_back}
+use Rattle.tree_back.proofs.WritesBack.{room_is, writes_back}
 
 -- ---- a listing and values have one source
 pub one_source : (ws vs b c : List ℕ) → Those ws vs b → Those ws vs c → b ≡ c
@@ -86,8 +86,8 @@ module _ (b room : List ℕ) (k : ℕ) where
   source : Below 256 b → Listed b room k → Those (take (k * 4) (tree_room b room)) (plain_of b (entries_of (listing 1 0 b))) b
   source o l =
       let w : take (k * 4) (tree_room b room) ≡ words l.es =
-      ap (λ (n : ℕ). take (n * 4) (tree_room b room)) (sym l.count) ∙ (ap (take (length l.es * 4)) l.after ∙ room-is b l.es l.used l.short l.lists room l.fits) in
-      record { short = l.short; bytes = o; es = l.es; used = l.used; listed = l.lists; are_words = sym w; are-values = rw l.lists }
+      ap (λ (n : ℕ). take (n * 4) (tree_room b room)) (sym l.count) ∙ (ap (take (length l.es * 4)) l.after ∙ room_is b l.es l.used l.short l.lists room l.fits) in
+      record { short = l.short; bytes = o; es = l.es; used = l.used; listed = l.lists; are_words = sym w; are_values = rw l.lists }
 
 -- ---- write after list: a listing and the plain values are written back as the bytes that were listed
 pub write_after_list : (b room out : List ℕ) (k : ℕ) (r : BackAnswer) (last : List ℕ) → Below 256 b → tree_answer b room ≡ listed k → length b ≤ length out
@@ -99,8 +99,8 @@ write_after_list b room out k r last o e h w =
 -- ---- list after write: what was written back is listed as it was, with its plain values
 pub record Restored (ws vs b room : List ℕ) : Type 0 where
   pub count : tree_answer b room ≡ listed (length ws / 4)
-  pub listing-is : tree_room b room ≡ sets room 0 ws
-  pub values-are : plain_of b (entries_of (listing 1 0 b)) ≡ vs
+  pub listing_is : tree_room b room ≡ sets room 0 ws
+  pub values_are : plain_of b (entries_of (listing 1 0 b)) ≡ vs
 
 restored : (ws vs b room : List ℕ) → Those ws vs b → length ws ≤ length room → Restored ws vs b room
 unfolding tree_answer tree_room answered filled
@@ -111,8 +111,8 @@ restored ws vs b room t h =
     let f = le-ltb (length room) (4 * length t.es) (omega arith) in
     record {
       count = rw (s, t.listed, f, c);
-      listing-is = rw (s, t.listed, f) (ap (sets room 0) t.are_words);
-      values-are = rw t.listed t.are-values;
+      listing_is = rw (s, t.listed, f) (ap (sets room 0) t.are_words);
+      values_are = rw t.listed t.are_values;
     }
 
 pub list_after_write : (ws vs out room : List ℕ) (n : ℕ) (last : List ℕ) → Back ws vs out (backed 0 n) last → length ws ≤ length room → Restored ws vs (take n last) room

@@ -15,7 +15,7 @@ use Rattle.tree_back.specs.Glue.{value_size, object_bytes, fits, step_of, Glue, 
 use Rattle.ground.proofs.Lists.{and_left, and_right}
 use Rattle.ground.proofs.Stores.{sets_then}
 use Rattle.lengths.proofs.Laws.{field_size}
-use Rattle.tree_back.proofs.Putting.{bytes-size}
+use Rattle.tree_back.proofs.Putting.{bytes_size}
 
 pub record Fits (cap p t n : ℕ) (vs : List ℕ) : Type 0 where
   pub tag : t ≤ 255
@@ -46,9 +46,9 @@ module _ (cap p t n : ℕ) (vs : List ℕ) where
   no-by true m size e = absurd (let z : ◌≡◌ {A = ℕ} 0 1 = cc in omega arith)
   no-by false m size e = refl
 
-  pub no-is : S.No ≡ step_of cap p t n vs → fits cap p t n vs ≡ false
+  pub no_is : S.No ≡ step_of cap p t n vs → fits cap p t n vs ≡ false
   unfolding step_of
-  no-is e = no-by (fits cap p t n vs) (value_size t n) (length (object_bytes t n vs)) e
+  no_is e = no-by (fits cap p t n vs) (value_size t n) (length (object_bytes t n vs)) e
 
 four : (ws : List ℕ) (i : ℕ) → i + 4 ≤ length ws → drop i ws ≡ get_or ws i 0 ∷ get_or ws (i + 1) 0 ∷ get_or ws (i + 2) 0 ∷ get_or ws (i + 3) 0 ∷ drop (i + 4) ws
 four ws i h =
@@ -117,14 +117,14 @@ module _ (ws vs out₀ : List ℕ) where
     abbrev n : ℕ
     n = get_or ws (i + 3) 0
 
-    pub sofar-more : i + 4 ≤ length ws → (after : List ℕ) (m size : ℕ) → S.Put m size ≡ step_of (length out) p t n (drop q vs)
+    pub sofar_more : i + 4 ≤ length ws → (after : List ℕ) (m size : ℕ) → S.Put m size ≡ step_of (length out) p t n (drop q vs)
         → (fits (length out) p t n (drop q vs) ≡ true → after ≡ sets out p (object_bytes t n (drop q vs))) → length after ≡ length out
         → Sofar ws vs out₀ after (i + 4) (p + size) (q + m)
-    sofar-more h after m size e st same =
+    sofar_more h after m size e st same =
         let a = put_is (length out₀) p t n (drop q vs) m size (rw w.same at e) in
         let f = fits_in (length out₀) p t n (drop q vs) a.0 in
         let z = field_size n in
-        let b = bytes-size (length out₀) p t n (drop q vs) f.enough in
+        let b = bytes_size (length out₀) p t n (drop q vs) f.enough in
         record {
           bs = w.bs ++ object_bytes t n (drop q vs);
           whole = w.whole ∙ rw (glue_more (length out₀) p ws (drop q vs) i h, a.0, a.1.0, a.1.1, drop-drop (value_size t n) q vs)
@@ -143,21 +143,21 @@ module _ (ws vs out₀ : List ℕ) where
         let g : glue (length out₀) 0 ws vs ≡ none = w.whole ∙ rw e in
         rw g (record { answer = refl; bytes = tt })
 
-    pub sofar-few : i < length ws → length ws - i < 4 → (after : List ℕ) → GluedIn (glue (length out₀) 0 ws vs) G.No out₀ after
-    sofar-few h g after =
+    pub sofar_few : i < length ws → length ws - i < 4 → (after : List ℕ) → GluedIn (glue (length out₀) 0 ws vs) G.No out₀ after
+    sofar_few h g after =
         refuse (few (length out₀) p (drop i ws) (drop q vs) (simp length-drop (omega arith)) (simp length-drop (omega arith))) after
 
-    pub sofar-no : i + 4 ≤ length ws → S.No ≡ step_of (length out) p t n (drop q vs) → (after : List ℕ) → GluedIn (glue (length out₀) 0 ws vs) G.No out₀ after
-    sofar-no h e after =
-        refuse (glue_more (length out₀) p ws (drop q vs) i h ∙ rw (no-is (length out₀) p t n (drop q vs) (rw w.same at e))) after
+    pub sofar_no : i + 4 ≤ length ws → S.No ≡ step_of (length out) p t n (drop q vs) → (after : List ℕ) → GluedIn (glue (length out₀) 0 ws vs) G.No out₀ after
+    sofar_no h e after =
+        refuse (glue_more (length out₀) p ws (drop q vs) i h ∙ rw (no_is (length out₀) p t n (drop q vs) (rw w.same at e))) after
 
-    pub sofar-left : length ws ≤ i → q < length vs → (after : List ℕ) → GluedIn (glue (length out₀) 0 ws vs) G.No out₀ after
+    pub sofar_left : length ws ≤ i → q < length vs → (after : List ℕ) → GluedIn (glue (length out₀) 0 ws vs) G.No out₀ after
     unfolding glue
-    sofar-left h g after =
+    sofar_left h g after =
         refuse (rw (drop_of_length-le ws {i = i} h, lt-ltb 0 (length (drop q vs)) (simp length-drop (omega arith)))) after
 
-    pub sofar-end : length ws ≤ i → length vs ≤ q → GluedIn (glue (length out₀) 0 ws vs) (G.Bytes p) out₀ out
+    pub sofar_end : length ws ≤ i → length vs ≤ q → GluedIn (glue (length out₀) 0 ws vs) (G.Bytes p) out₀ out
     unfolding glue glued_of InRoom
-    sofar-end h g =
+    sofar_end h g =
         let e : glue (length out₀) 0 ws vs ≡ glued w.bs = w.whole ∙ rw (drop_of_length-le ws {i = i} h, le-ltb 0 (length (drop q vs)) (simp length-drop (omega arith)), append-nil) in
         rw e (record { answer = ap G.Bytes w.size; bytes = (w.stored, omega (arith, w.size, w.room)) })

@@ -16,7 +16,7 @@ use Rattle.tree.specs.Answers.{words, answered, filled, tree_answer, tree_room}
 use Rattle.tree.proofs.Words.{length_words, words_append}
 use Rattle.lengths.specs.Lengths.{length_field}
 use Rattle.tree.specs.Forest.{Forest, done, plain, template, front, encode, entries, Valid, values}
-use Rattle.tree.proofs.Complete.{all-is}
+use Rattle.tree.proofs.Complete.{all_is}
 use Rattle.tree.proofs.Sound.{sound}
 use Rattle.tree.proofs.Order.{plain_values, two_each}
 use Rattle.tree_back.specs.Glue.{value_size, object_bytes, fits, glued, prepend, glue, same_tree}
@@ -65,7 +65,7 @@ glue_entries p d at (plain t v r) ws vs w b h =
     let n = length v in
     let u = front n + n in
     let z = field_size n in
-    let l = all-is t n v (encode r) refl in
+    let l = all_is t n v (encode r) refl in
     let k = length-append v (values r ++ vs) in
     let ob : object_bytes t n (v ++ (values r ++ vs)) ≡ t ∷ (length_field n ++ v) = bytes_plain t v (values r ++ vs) w.0.1 in
     let size : length (t ∷ (length_field n ++ v)) ≡ u = simp length-append (omega arith) in
@@ -86,7 +86,7 @@ glue_entries p d at (template t i r) ws vs w b h =
     let n = length (encode i) in
     let u = front n + n in
     let z = field_size n in
-    let l = all-is t n (encode i) (encode r) refl in
+    let l = all_is t n (encode i) (encode r) refl in
     let ob : object_bytes t n (values i ++ (values r ++ vs)) ≡ t ∷ length_field n = bytes_template t n (values i ++ (values r ++ vs)) w.0.1 in
     let size : length (t ∷ length_field n) ≡ front n = omega arith in
     let vz : value_size t n ≡ 0 = size_template t n w.0.1 in
@@ -117,17 +117,17 @@ module _ (b : List ℕ) (es : List Entry) (u : ℕ) (short : length b ≤ 4096) 
       let z = le-ltb 4096 (length b) short in
       (rw (z, lists, q), rw (z, lists, q))
 
-  pub room-is : (room : List ℕ) → 4 * length es ≤ length room → take (length es * 4) (sets room 0 (words es)) ≡ words es
-  room-is room h =
+  pub room_is : (room : List ℕ) → 4 * length es ≤ length room → take (length es * 4) (sets room 0 (words es)) ≡ words es
+  room_is room h =
       let k : length es * 4 ≡ length (words es) = omega (arith, length_words es) in
       rw (k, sets-eq (words es) room 0 (omega arith)) (take-append_seam (words es) (drop (0 + length (words es)) room))
 
-  pub same-words : 2 * length es ≤ length b → same_tree b (words es) ≡ true
+  pub same_words : 2 * length es ≤ length b → same_tree b (words es) ≡ true
   unfolding same_tree
-  same-words h =
+  same_words h =
       let l : length {A = ℕ} (replicate 8192 0) ≡ 8192 = length-replicate {A = ℕ} 8192 0 in
       let r = tree_is (omega arith) (replicate 8192 0) l in
-      rw (r.0, r.1, room-is (replicate 8192 0) (omega arith), same_self (words es))
+      rw (r.0, r.1, room_is (replicate 8192 0) (omega arith), same_self (words es))
 
 -- what belongs to bytes that the listing accepts is written back as those bytes
 pub writes_back : (ws vs b : List ℕ) → Those ws vs b → (glue 4100 0 ws vs ≡ glued b) × (same_tree b ws ≡ true)
@@ -136,8 +136,8 @@ writes_back ws vs b w =
     let t = sound 1 0 b w.es w.used w.bytes w.listed in
     let f = t.forest in
     let pv : plain_of b w.es ≡ values f = rw t.list at (plain_values b 1 0 f [] (sym (append-nil (encode f) ∙ t.bytes)) t.valid) in
-    let vf : values f ≡ vs = sym pv ∙ w.are-values in
+    let vf : values f ≡ vs = sym pv ∙ w.are_values in
     let wf : words (entries 1 0 f) ≡ ws = ap words t.list ∙ w.are_words in
     let g = glue_entries 0 1 0 f [] [] t.valid (rw t.bytes w.bytes) (rw t.bytes (omega (arith, w.short))) in
     let two : 2 * length w.es ≤ length b = rw (t.list, t.bytes) at (two_each 1 0 f) in
-    (rw (append-nil, append-nil, wf, vf, t.bytes, append-nil) at g, rw (← w.are_words) (same-words b w.es w.used w.short w.listed two))
+    (rw (append-nil, append-nil, wf, vf, t.bytes, append-nil) at g, rw (← w.are_words) (same_words b w.es w.used w.short w.listed two))

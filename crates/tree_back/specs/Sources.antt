@@ -14,7 +14,7 @@ pub record Those (ws vs b : List ℕ) : Type 0 where
   pub used : ℕ
   pub listed : listing 1 0 b ≡ took es used
   pub are_words : words es ≡ ws
-  pub are-values : plain_of b es ≡ vs
+  pub are_values : plain_of b es ≡ vs
 
 abbrev pub backed : ℕ → ℕ → BackAnswer
 backed number size = record { number = number; size = size }

@@ -2,8 +2,8 @@
 --     B, D, L              the struct's row, type and laws, at a lifetime
 --     mach, image_val, table_val      the machine values of a view and of its fields. `mach` is spelled by the laws: `lowered` is another term where a field is an array of structs
 --     is_t                 a view's table is related to its machine value
---     image-out            what a view owns gives what its image owns, and is kept: the struct is Copy
--- Assumes nothing; `image-out` takes `Logic`.
+--     image_out            what a view owns gives what its image owns, and is kept: the struct is Copy
+-- Assumes nothing; `image_out` takes `Logic`.
 use mathlib.Core.Path.{◌≡◌}
 use mathlib.Core.List.{[], ◌∷◌}
 use lib.ListN.{length}
@@ -58,8 +58,8 @@ module _ {M : Type 1} {𝓤 : Ura M} (𝓛 : Logic 𝓤) (κ : Lft) (d : View) w
   abbrev vd : Values (D κ).parts
   vd = (d.image, (d.table, tt))
 
-  pub image-out : ent 𝓤 (sem 𝓛 Own) (sep 𝓤 (sem 𝓛 ((ShrSlice (named 0) κ u8).own_val d.image (image_val d ∷ []))) (sem 𝓛 Own))
-  image-out =
+  pub image_out : ent 𝓤 (sem 𝓛 Own) (sep 𝓤 (sem 𝓛 ((ShrSlice (named 0) κ u8).own_val d.image (image_val d ∷ []))) (sem 𝓛 Own))
+  image_out =
       qed 𝓛 (‵ Own ∷ []) ∵ use1 𝓛 (‵ Own ⊛ ‵ Own) ((LL.copy (D κ) (T'.the_copy (named_lft 1 0 tt (κ, tt))) 𝓛).twice d (mach κ d ∷ [])) $ split ! $
       use1 𝓛 (given (mach κ d ∷ [] ≡ mach κ d ∷ []) (‵ (all_own (D κ).parts (L κ) vd))) (own_open 𝓛 (D κ) (L κ) vd (mach κ d)) $ learn ! (λ _.
       use1 𝓛 (‵ (field_own (D κ).parts (L κ) 0 d.image) ⊛ ‵ (rest (D κ).parts (L κ) 0 vd)) (own_out 𝓛 (D κ).parts (L κ) 0 vd) $ split ! $ move ! (1 ∷ []) $ drop ! $ done !)

@@ -13,7 +13,7 @@ use Rattle.card.specs.Reading.{reading}
 use Rattle.card.specs.Places.{places}
 use Rattle.demands.specs.Demands.{LentEdition, Accepts, library_reader}
 use Rattle.lookup.specs.Parts.{is_there, part_at}
-use Rattle.lookup.proofs.Tells.{tell-alike}
+use Rattle.lookup.proofs.Tells.{tell_alike}
 use Rattle.view.specs.declared.View.{View}
 
 module _ (e : Edition) (v : View) (n : LentEdition e) (h : Accepts library_reader e v.image.now) (own : v.table ≡ places e v.image.now) where
@@ -22,9 +22,9 @@ module _ (e : Edition) (v : View) (n : LentEdition e) (h : Accepts library_reade
   values = (content_of (reading e v.image.now).content).values
 
   -- what `part` answers is the record's value
-  pub part-shown : (k : ℕ) (z : Bor (List ℕ)) → z.now ≡ part_at v.image.now v.table k → z.now ≡ get_or values k []
-  part-shown k z p = p ∙ rw own (sym ((tell-alike e v.image.now n h).value k))
+  pub part_shown : (k : ℕ) (z : Bor (List ℕ)) → z.now ≡ part_at v.image.now v.table k → z.now ≡ get_or values k []
+  part_shown k z p = p ∙ rw own (sym ((tell_alike e v.image.now n h).value k))
 
   -- what `has` answers is whether it has a length
-  pub has-shown : (k : ℕ) (z : Bool) → z ≡ is_there v.table k → z ≡ not (eqb (length (get_or values k [])) 0)
-  has-shown k z p = p ∙ rw own ((tell-alike e v.image.now n h).there k)
+  pub has_shown : (k : ℕ) (z : Bool) → z ≡ is_there v.table k → z ≡ not (eqb (length (get_or values k [])) 0)
+  has_shown k z p = p ∙ rw own ((tell_alike e v.image.now n h).there k)

@@ -20,28 +20,28 @@ piece_at size (suc n) bs (suc i) h =
     piece_at size n (drop size bs) i (le_of_suc-le-suc h) ∙ rw (drop-drop, at)
 
 module _ (bs : List ℕ) (n : length bs ≡ 479) where
-  pub lent-first : (lent_record bs).first ≡ get_or bs 0 0
+  pub lent_first : (lent_record bs).first ≡ get_or bs 0 0
   unfolding record_from
-  lent-first = rw (lent_record_lem bs n)
+  lent_first = rw (lent_record_lem bs n)
 
-  pub lent-free : (lent_record bs).free ≡ take 12 (drop 1 bs)
+  pub lent_free : (lent_record bs).free ≡ take 12 (drop 1 bs)
   unfolding record_from
-  lent-free = rw (lent_record_lem bs n)
+  lent_free = rw (lent_record_lem bs n)
 
-  pub lent-last : (lent_record bs).last ≡ get_or bs 13 0
+  pub lent_last : (lent_record bs).last ≡ get_or bs 13 0
   unfolding record_from
-  lent-last = rw (lent_record_lem bs n)
+  lent_last = rw (lent_record_lem bs n)
 
-  pub lent-number : (lent_record bs).number ≡ get_or bs 478 0
+  pub lent_number : (lent_record bs).number ≡ get_or bs 478 0
   unfolding record_from
-  lent-number = rw (lent_record_lem bs n)
+  lent_number = rw (lent_record_lem bs n)
 
-  pub lent-count : length (lent_record bs).objects ≡ 16
+  pub lent_count : length (lent_record bs).objects ≡ 16
   unfolding record_from pieces
-  lent-count = rw (lent_record_lem bs n)
+  lent_count = rw (lent_record_lem bs n)
 
-  pub lent-object : (i : ℕ) → i < 16 → get_or (lent_record bs).objects i no_object ≡ object_from (take 29 (drop (14 + i * 29) bs))
+  pub lent_object : (i : ℕ) → i < 16 → get_or (lent_record bs).objects i no_object ≡ object_from (take 29 (drop (14 + i * 29) bs))
   unfolding record_from
-  lent-object i h =
+  lent_object i h =
       let same : take 29 (drop (i * 29) (drop 14 bs)) ≡ take 29 (drop (14 + i * 29) bs) = rw drop-drop in
       rw (lent_record_lem bs n) (get_or-map object_from (pieces 29 16 (drop 14 bs)) i [] ∙ ap object_from (piece_at 29 16 (drop 14 bs) i h ∙ same))

@@ -20,16 +20,16 @@ use Rattle.wire_records.proofs.Sizes.{lent_record_lem}
 -- a record as the code has it: twelve free bytes, and sixteen objects of 28 bytes
 pub record Whole (r : Record) : Type 0 where
   pub free_bytes : length r.free ≡ 12
-  pub object-count : length r.objects ≡ 16
-  pub object-bytes : Each object_bytes 29 r.objects
+  pub object_count : length r.objects ≡ 16
+  pub object_bytes_lem : Each object_bytes 29 r.objects
 
 pub record_back : (r : Record) → Whole r → record_from (record_bytes r) ≡ r
 unfolding record_from record_bytes
 record_back r w =
     let rest = joined object_bytes r.objects ++ (r.number ∷ []) in
-    let os = rw w.object-count at (pieces_back object_bytes object_from 29 (λ o. refl) w.object-bytes (r.number ∷ [])) in
+    let os = rw w.object_count at (pieces_back object_bytes object_from 29 (λ o. refl) w.object_bytes_lem (r.number ∷ [])) in
     let behind = rw w.free_bytes at (drop-append-add r.free (r.last ∷ rest) 1) in
-    let long : length (joined object_bytes r.objects) ≡ 464 = joined_length object_bytes 29 w.object-bytes ∙ rw w.object-count refl in
+    let long : length (joined object_bytes r.objects) ≡ 464 = joined_length object_bytes 29 w.object_bytes_lem ∙ rw w.object_count refl in
     let head : List ℕ = r.free ++ (r.last ∷ joined object_bytes r.objects) in
     let size : length head ≡ 477 = length-append r.free (r.last ∷ joined object_bytes r.objects) ∙ rw (w.free_bytes, long) refl in
     let number : get_or (r.free ++ (r.last ∷ rest)) 477 0 ≡ r.number =
@@ -53,7 +53,7 @@ each_held (o ∷ os) h = one_more {x = o} (ap suc (h 0 (zero-lt-suc (length os))
 record_long : (r : Record) → Whole r → length (record_bytes r) ≡ 479
 unfolding record_bytes
 record_long r w =
-    let long : length (joined object_bytes r.objects) ≡ 464 = joined_length object_bytes 29 w.object-bytes ∙ rw w.object-count refl in
+    let long : length (joined object_bytes r.objects) ≡ 464 = joined_length object_bytes 29 w.object_bytes_lem ∙ rw w.object_count refl in
     simp length-append (omega (arith, long, w.free_bytes))
 
 -- the bytes of a record, lent, are the record

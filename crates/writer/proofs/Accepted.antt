@@ -32,7 +32,7 @@ use Rattle.card.proofs.Chains.{neither, table_well}
 use Rattle.ground.specs.Pieces.{pieces}
 use Rattle.wire_tables.specs.Tables.{edition_from, no_edition, lent_edition}
 use Rattle.wire_records.specs.Records.{lent_record}
-use Rattle.wire_records.proofs.Parts.{lent-count}
+use Rattle.wire_records.proofs.Parts.{lent_count}
 use Rattle.checks.specs.Lending.{lent_refusal}
 use Rattle.checks.proofs.Order.{refused_size, content_order, in_order}
 
@@ -102,7 +102,7 @@ accepted e r n hr ho z =
 module _ (e : Edition) (r : Record) (bytes b : List ℕ) (x : Refusal) (is : x ≡ record_refusal e r b) (lent : lent_record bytes ≡ r) where
   pub has_room : length bytes ≡ 479 → length e.rows ≡ 17 → x.number ≡ 0 → Lendable bytes × (length b ≡ 256)
   has_room n hr z =
-      let ho = rw lent at (lent-count bytes n) in
+      let ho = rw lent at (lent_count bytes n) in
       let k = accepted e r (length b) hr ho (ap (λ (y : Refusal). y.number) (sym is) ∙ z) in
       (record { sized = n; storable = rw lent k.storable }, k.sized)
 
@@ -112,18 +112,18 @@ module _ (e : Edition) (r : Record) (bytes b : List ℕ) (x : Refusal) (is : x �
 
 -- the same of lent bytes
 module _ (e : Edition) (bytes b : List ℕ) (x : Refusal) (is : x ≡ lent_refusal e bytes (length b)) where
-  pub lent-room : length e.rows ≡ 17 → x.number ≡ 0 → Lendable bytes × (length b ≡ 256)
+  pub lent_room : length e.rows ≡ 17 → x.number ≡ 0 → Lendable bytes × (length b ≡ 256)
   unfolding lent_refusal gate
-  lent-room hr z = go (eqb (length bytes) 479) refl is
+  lent_room hr z = go (eqb (length bytes) 479) refl is
     where
       go : (q : Bool) → eqb (length bytes) 479 ≡ q → x ≡ gate q (refuse 20 0 0) (write_refusal e (lent_record bytes).number (content_of (lent_record bytes)) (length b))
           → Lendable bytes × (length b ≡ 256)
       go true p f = has_room e (lent_record bytes) bytes b x f refl (eqb-true (length bytes) 479 p) hr z
       go false p f = absurd (let k = ap (λ (y : Refusal). y.number) f in omega arith)
 
-  pub lent-left : {after : List ℕ} → after ≡ cond (eqb x.number 0) (layout (content_of (lent_record bytes))) b → after ≡ lent_after e bytes b
+  pub lent_left : {after : List ℕ} → after ≡ cond (eqb x.number 0) (layout (content_of (lent_record bytes))) b → after ≡ lent_after e bytes b
   unfolding lent_after
-  lent-left h = rw is at h
+  lent_left h = rw is at h
 
 -- whatever is lent as a table, its edition has seventeen rows
 pub lent_rows : (bs : List ℕ) → length (lent_edition bs).rows ≡ 17

@@ -31,13 +31,13 @@ template_most s h =
 
 -- where the objects begin, once the length is written
 pub record Begun (s : List ℕ) (n start : ℕ) : Type 0 where
-  pub n-is : n ≡ template_length s
+  pub n_is : n ≡ template_length s
   pub start_is : start ≡ 31 + length (length_field n)
   pub few : length s + 3 ≤ 212
   pub most : length (length_field n) ≤ 2
 
 pub begun : (s : List ℕ) (m start : ℕ) → m ≡ length s → template_length s ≤ 212 → start ≡ 31 + length (length_field (m + 3)) → Begun s (m + 3) start
-begun s m start e h f = record { n-is = ap (λ (k : ℕ). k + 3) e; start_is = f; few = h; most = (length_field_lem (m + 3) (omega arith)).1 }
+begun s m start e h f = record { n_is = ap (λ (k : ℕ). k + 3) e; start_is = f; few = h; most = (length_field_lem (m + 3) (omega arith)).1 }
 
 -- what stands behind the first 30 bytes
 behind_front : (l p v : List ℕ) (q : ℕ) → length p ≡ 30 → 30 ≤ q → q ≤ length l → take q l ≡ p ++ v → take (q - 30) (drop 30 l) ≡ v
@@ -48,10 +48,10 @@ behind_front l p v q hp hq room e =
     sym (drop_at (take 30 l) (take (q - 30) (drop 30 l)) 30 front) ∙ ap (drop 30) both ∙ drop_at p v 30 hp
 
 module _ (s : List ℕ) {n start end : ℕ} (at : Begun s n start) (he : end ≡ start + length s) where
-  pub template-ends : end + 2 + 1 ≡ 30 + length (template s)
-  template-ends =
+  pub template_ends : end + 2 + 1 ≡ 30 + length (template s)
+  template_ends =
       let a = template_long s in
-      let c : length (length_field n) ≡ length (length_field (template_length s)) = ap (λ (k : ℕ). length (length_field k)) at.n-is in
+      let c : length (length_field n) ≡ length (length_field (template_length s)) = ap (λ (k : ℕ). length (length_field k)) at.n_is in
       omega (arith, at.start_is)
 
   pub templated : (b : List ℕ) {l₂ : List ℕ} (l₃ : List ℕ) (x : ℕ) → l₂ ≡ sets (set b 30 0x60) 31 (length_field n) → take end l₃ ≡ take start l₂ ++ s
@@ -70,7 +70,7 @@ module _ (s : List ℕ) {n start end : ℕ} (at : Begun s n start) (he : end ≡
       let room₄ : end + length z ≤ length l₃ = omega arith in
       let d₄ : take (end + 2) l₄ ≡ take end l₃ ++ z = ap (take (end + 2)) h₄ ∙ grown l₃ z end room₄ in
       let same : (f ++ s) ++ z ≡ summed s =
-      ap (λ (k : ℕ). ((0x60 ∷ length_field k) ++ s) ++ z) at.n-is ∙ ap (λ (y : List ℕ). 0x60 ∷ y) (append_assoc (length_field (template_length s)) s z) in
+      ap (λ (k : ℕ). ((0x60 ∷ length_field k) ++ s) ++ z) at.n_is ∙ ap (λ (y : List ℕ). 0x60 ∷ y) (append_assoc (length_field (template_length s)) s z) in
       let d : take (end + 2) l₄ ≡ p ++ summed s =
       d₄ ∙ ap (λ (y : List ℕ). y ++ z) (e₃ ∙ ap (λ (y : List ℕ). y ++ s) d₂ ∙ append_assoc p f s) ∙ append_assoc p (f ++ s) z ∙ ap (λ (y : List ℕ). p ++ y) same in
       let long : length l₄ ≡ length l₃ = simp length-set in

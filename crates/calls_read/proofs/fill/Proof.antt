@@ -6,7 +6,7 @@ use Rattle.ground.proofs.Puts.{put_whole}
 use Rattle.card.specs.declared.Reading.{Reading}
 use Rattle.wire_tables.specs.Tables.{edition_from}
 use Rattle.wire_records.specs.Records.{record_bytes}
-use Rattle.calls_read.proofs.Fills.{empty_bytes, fills-refused, Filled, fills-accepted}
+use Rattle.calls_read.proofs.Fills.{empty_bytes, fills_refused, Filled, fills_accepted}
 use borrow.Author.Rules.{rules}
 use Rattle.calls_read.proofs.fill.Statement.{statement}
 use Rattle.calls_read.proofs.fill.Tie as tie
@@ -26,11 +26,11 @@ returns c =
     let refused = f.before.before in
     let p = refused.before.before.before in
     let b = p.before.before.before.before in
-    let is = fills-refused b.args.table.now b.args.image.now p.places_of.result p.places_of.ensures refused.if1.true in
+    let is = fills_refused b.args.table.now b.args.image.now p.places_of.result p.places_of.ensures refused.if1.true in
     (ap (λ (x : Reading). x.refusal) is, put_whole _ (replicate 479 0) (omega (arith, b.requires)) f.fill.ensures.1 ∙ empty_bytes ∙ ap (λ (x : Reading). record_bytes x.content) is)
 
 filled : (c : tie.Else1) → Filled c.before.before.before.before.before.before.before.args.table.now c.before.before.before.before.before.before.before.args.image.now c.before.before.before.places_of.result c.before.before.before.places_of.ensures
-filled c = fills-accepted _ _ _ c.before.before.before.places_of.ensures c.if1.false
+filled c = fills_accepted _ _ _ c.before.before.before.places_of.ensures c.if1.false
 
 shared-slice-read-put-record : tie.Need-shared-slice-read-put-record
 shared-slice-read-put-record c = omega (arith, (filled c.before.before.before.before).size)

@@ -6,7 +6,7 @@ use native.Mathlib.Omega.{arith}
 use borrow.Author.Rules.{rules}
 use lib.ListN.{length, get_or, drop, length-take}
 use Rattle.ground.specs.Pieces.{joined}
-use Rattle.ground.proofs.Puts.{Left, left_start, left-next, left_end}
+use Rattle.ground.proofs.Puts.{Left, left_start, left_next, left_end}
 use Rattle.ground.proofs.Pieces.{joined_next, joined_end}
 use Rattle.reader_steps.specs.Steps.{values_at}
 use Rattle.reader_steps.proofs.Copies.{values_length}
@@ -79,7 +79,7 @@ loop-again c =
     let same : length st ≡ length ls = omega arith in
     let h : l.k < length (values_at s st ls) = omega (arith, values_length s st ls same) in
     let next = joined_next value_bytes (values_at s st ls) l.k [] h ∙ ap (λ (v : List ℕ). value_bytes v ++ joined value_bytes (drop (l.k + 1) (values_at s st ls))) (value_cut s st ls l.k same) in
-    (omega arith, omega arith, omega (arith, put.put-value.ensures.1), left-next l.invariant.3 _ _ next put.put-value.ensures.0)
+    (omega arith, omega arith, omega (arith, put.put-value.ensures.1), left_next l.invariant.3 _ _ next put.put-value.ensures.0)
 
 same_length : tie.Need-same-length invariant-loop decreases-loop
 same_length c = omega arith

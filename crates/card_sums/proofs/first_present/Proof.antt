@@ -5,7 +5,7 @@ use native.Mathlib.Omega.{arith}
 use borrow.Author.Rules.{rules}
 use borrow.Author.Tests.{eq-eqb, ne_eqb}
 use lib.ListN.{length}
-use Rattle.ground.proofs.Lists.{leading-pass, leading-stop, leading_end}
+use Rattle.ground.proofs.Lists.{leading_pass, leading_stop, leading_end}
 use Rattle.card.specs.Rules.{is_zero, first_present}
 use Rattle.card_sums.proofs.first_present.Statement.{statement}
 use Rattle.card_sums.proofs.first_present.Tie as tie
@@ -26,7 +26,7 @@ returns : tie.Need-returns invariant-loop decreases-loop
 returns c =
     let h = c.before.before in
     let ls = h.before.args.t1 in
-    sym (leading-stop is_zero 0 ls h.loop.i (omega (arith, h.loop.invariant.1)) (ne_eqb _ _ c.if1.true)) ∙ h.loop.invariant.2
+    sym (leading_stop is_zero 0 ls h.loop.i (omega (arith, h.loop.invariant.1)) (ne_eqb _ _ c.if1.true)) ∙ h.loop.invariant.2
 
 add-i : tie.Need-overflow-add-i invariant-loop decreases-loop
 add-i c = search rules
@@ -38,7 +38,7 @@ loop-again : tie.Need-loop-preserved invariant-loop decreases-loop
 loop-again c =
     let h = c.before.before in
     let ls = h.before.args.t1 in
-    (search rules, h.loop.invariant.1, sym (leading-pass is_zero 0 ls h.loop.i (omega (arith, h.loop.invariant.1)) (eq-eqb _ _ c.if1.false)) ∙ h.loop.invariant.2)
+    (search rules, h.loop.invariant.1, sym (leading_pass is_zero 0 ls h.loop.i (omega (arith, h.loop.invariant.1)) (eq-eqb _ _ c.if1.false)) ∙ h.loop.invariant.2)
 
 returns-2 : tie.Need-returns-2 invariant-loop decreases-loop
 returns-2 c =

@@ -8,7 +8,7 @@ use Rattle.card.specs.Refusals.{or_else}
 use Rattle.card.specs.Refusing.{number_refusal, content_refusal, write_refusal}
 use Rattle.card.proofs.Chains.{or_pass, or_stop, table_well}
 use Rattle.wire_records.specs.Records.{lent_record}
-use Rattle.wire_records.proofs.Parts.{lent-number}
+use Rattle.wire_records.proofs.Parts.{lent_number}
 use Rattle.checks.proofs.Order.{refused_size, in_order}
 use borrow.Author.Rules.{rules}
 use Rattle.checks.proofs.check_under.Statement.{statement}
@@ -47,7 +47,7 @@ check-numbers-requires c κs = search rules
 numbered : (n : tie.After-check-numbers) → n.check-numbers.result ≡ number_refusal n.before.before.before.before.before.before.args.edition.number (lent_record n.before.before.before.before.before.before.args.bytes.now).number
 numbered n =
     let s = n.before.before.before.before.before.before in
-    n.check-numbers.ensures ∙ ap (number_refusal s.args.edition.number) (sym (lent-number s.args.bytes.now s.requires.1))
+    n.check-numbers.ensures ∙ ap (number_refusal s.args.edition.number) (sym (lent_number s.args.bytes.now s.requires.1))
 
 returns-3 : tie.Need-returns-3
 returns-3 c =

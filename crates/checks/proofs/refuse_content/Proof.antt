@@ -5,7 +5,7 @@ use Rattle.card.specs.Content.{content_of}
 use Rattle.card.specs.Refusing.{ends_refusal}
 use Rattle.card.proofs.Chains.{or_pass, or_stop}
 use Rattle.wire_records.specs.Records.{lent_record}
-use Rattle.wire_records.proofs.Parts.{lent-first, lent-last, lent-count}
+use Rattle.wire_records.proofs.Parts.{lent_first, lent_last, lent_count}
 use Rattle.object_sizes.specs.Sizes.{sizes_refusal}
 use Rattle.object_sizes.proofs.Sums.{content_count, sizes_order}
 use Rattle.checks.proofs.Order.{content_order}
@@ -27,7 +27,7 @@ ended : (e : tie.After-check-ends) → e.check-ends.result ≡ ends_refusal (len
 ended e =
     let s = e.before.before.before.before in
     let bs = s.args.bytes.now in
-    e.check-ends.ensures ∙ sym (ap₂ ends_refusal (lent-first bs s.requires.0) (lent-last bs s.requires.0))
+    e.check-ends.ensures ∙ sym (ap₂ ends_refusal (lent_first bs s.requires.0) (lent_last bs s.requires.0))
 
 returns : tie.Need-returns
 unfolding content_of
@@ -70,7 +70,7 @@ returns-3 c =
     let e = r.before.before.before.before.before in
     let s = e.before.before.before.before in
     let bs = s.args.bytes.now in
-    let sizes = c.check-sizes.ensures ∙ ap sizes_refusal c.before.lengths-of.ensures ∙ sizes_order (content_of (lent_record bs)) (content_count (lent_record bs) (lent-count bs s.requires.0)) in
+    let sizes = c.check-sizes.ensures ∙ ap sizes_refusal c.before.lengths-of.ensures ∙ sizes_order (content_of (lent_record bs)) (content_count (lent_record bs) (lent_count bs s.requires.0)) in
     sym
     (content_order s.args.edition (content_of (lent_record bs)) (ended e) r.check-rows.ensures sizes
     ∙ or_pass _ _ r.before.before.before.if1.false ∙ or_pass _ _ c.before.before.if2.false)

@@ -18,7 +18,7 @@ use Rattle.day.specs.Calls.{more_refusal}
 use Rattle.day.proofs.Entries.{put_next}
 use Rattle.day.proofs.Opens.{opened}
 use Rattle.day.proofs.Sizes.{length_images, card_size}
-use Rattle.day.proofs.Adds.{front_refusal, Roomy, front_refused, front_roomy, add-card, add_none, refused-add, written-add}
+use Rattle.day.proofs.Adds.{front_refusal, Roomy, front_refused, front_roomy, add_card, add_none, refused_add, written_add}
 use borrow.Author.Rules.{rules}
 use Rattle.day_add.proofs.add.Statement.{statement}
 use Rattle.day_add.proofs.add.Tie as tie
@@ -66,7 +66,7 @@ returns c =
     let o = t.before.before in
     let a = o.before.before.before.before.before.before.before.args in
     let e = front o ∙ sym (front_refused a.file.now a.card.now (length a.room.now) (λ z. t.if1.true (ap (λ (x : Refusal). x.number) (front o) ∙ z))) in
-    let w = refused-add a.file.now a.card.now a.room.now o.or_else.result e t.if1.true in
+    let w = refused_add a.file.now a.card.now a.room.now o.or_else.result e t.if1.true in
     (c.answer-of.ensures ∙ w.0, w.1)
 
 cast-card-at : tie.Need-overflow-cast-card-at
@@ -91,8 +91,8 @@ returns-2 c =
     let d = done e in
     let f = ap (λ (x : Refusal). x.number) n.new.ensures in
     let no : is_card a.card.now ≡ false = sym (ap (λ (x : Card). x.accepted) k.card-at.ensures) ∙ not_true _ t.if2.true in
-    let g = n.new.ensures ∙ ap (λ (m : ℕ). refuse 41 m 0) (counted e).count-in.ensures ∙ sym (add-card a.file.now a.card.now (length a.room.now) d.zero-file d.few d.room no) in
-    let w = refused-add a.file.now a.card.now a.room.now n.new.result g (λ z. absurd (omega arith)) in
+    let g = n.new.ensures ∙ ap (λ (m : ℕ). refuse 41 m 0) (counted e).count-in.ensures ∙ sym (add_card a.file.now a.card.now (length a.room.now) d.zero-file d.few d.room no) in
+    let w = refused_add a.file.now a.card.now a.room.now n.new.result g (λ z. absurd (omega arith)) in
     (c.answer-of2.ensures ∙ w.0, w.1)
 
 put-added-requires : tie.Need-put-added-requires
@@ -138,7 +138,7 @@ returns-3 c =
     let index : take (m * 14) part ≡ index_bytes (images_in s) =
     take-take (m * 14) (m * 14) (drop (m * 256) s) (omega arith) ∙ ap (λ (i : ℕ). take (i * 14) (drop (i * 256) s)) h ∙ (opened s d.zero-file).index in
     let g = put_next (images_in s) a.card.now part m k.card-at.result.entry (length_images s ∙ sym h) index (ap (λ (y : Card). y.entry) k.card-at.ensures) in
-    let w = written-add s a.card.now a.room.now n.none.result m (flat (insert k.card-at.result.entry (pieces 14 m part))) x (ap (λ (y : Refusal). y.number) n.none.ensures) h g in
+    let w = written_add s a.card.now a.room.now n.none.result m (flat (insert k.card-at.result.entry (pieces 14 m part))) x (ap (λ (y : Refusal). y.number) n.none.ensures) h g in
     (c.answer-of3.ensures ∙ w.0, p.put-added.ensures ∙ w.1)
 
 pub add_spec : {M : Type 1} → statement M

@@ -8,7 +8,7 @@ use lib.Seq.{length-take-le}
 use Rattle.ground.proofs.Stores.{sets_then}
 use Rattle.ground.proofs.Puts.{put_stored}
 use Rattle.day.specs.Files.{trailer}
-use Rattle.day.proofs.Frames.{closed-right}
+use Rattle.day.proofs.Frames.{closed_right}
 use borrow.Author.Rules.{rules}
 use Rattle.day_add.proofs.write_added.Statement.{statement}
 use Rattle.day_add.proofs.write_added.Tie as tie
@@ -48,7 +48,7 @@ returns c =
     let two = put_stored u.put.new.0 (a.count * 256) a.card.now (omega (arith, u.put.auto.0)) v.put2.ensures.1 in
     let e = two ∙ sets_then a.room.now front 0 a.card.now one (omega arith) in
     w.close.ensures
-    ∙ closed-right (a.count + 1) a.index.now v.put2.new.0 (omega arith) (omega arith) (omega (arith, u.put.auto.0, v.put2.auto.0))
+    ∙ closed_right (a.count + 1) a.index.now v.put2.new.0 (omega arith) (omega arith) (omega (arith, u.put.auto.0, v.put2.auto.0))
     ∙ sets_then a.room.now (front ++ a.card.now) 0 (a.index.now ++ trailer (a.count + 1) a.index.now) e (omega (arith, length-append front a.card.now))
 
 pub write-added-spec : {M : Type 1} → statement M

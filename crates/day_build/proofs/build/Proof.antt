@@ -9,8 +9,8 @@ use Rattle.card.specs.declared.Refusal.{Refusal}
 use Rattle.ground.proofs.Stores.{sets_then}
 use Rattle.ground.proofs.Puts.{put_stored}
 use Rattle.day.specs.Files.{trailer}
-use Rattle.day.proofs.Frames.{closed-right}
-use Rattle.day.proofs.Builds.{Built, built, refused-build, written-build}
+use Rattle.day.proofs.Frames.{closed_right}
+use Rattle.day.proofs.Builds.{Built, built, refused_build, written_build}
 use borrow.Author.Rules.{rules}
 use Rattle.day_build.proofs.build.Statement.{statement}
 use Rattle.day_build.proofs.build.Tie as tie
@@ -29,7 +29,7 @@ returns c =
     let t = c.before in
     let k = t.before.before.before in
     let a = k.before.before.before.before.args in
-    let w = refused-build a.images.now a.room.now k.check-build.result k.check-build.ensures.0 t.if1.true in
+    let w = refused_build a.images.now a.room.now k.check-build.result k.check-build.ensures.0 t.if1.true in
     (c.answer-of.ensures ∙ w.0, w.1)
 
 mul-size : tie.Need-overflow-mul-size
@@ -84,10 +84,10 @@ returns-2 c =
     let a = k.before.before.before.before.args in
     let s = a.images.now in
     let i = take (length s / 256 * 14) k.check-build.new.1.1.0 in
-    let w = written-build s a.room.now k.check-build.result i k.check-build.ensures.0 e.if1.false (k.check-build.ensures.1 e.if1.false) in
+    let w = written_build s a.room.now k.check-build.result i k.check-build.ensures.0 e.if1.false (k.check-build.ensures.1 e.if1.false) in
     let d = done e in
     let put = put_stored a.room.now 0 s (omega (arith, d.whole, d.room)) u.put.ensures.1 in
-    let shut = closed-right (length s / 256) i u.put.new.0 d.few (index-size v.before) (omega (arith, d.room, u.put.auto.0)) in
+    let shut = closed_right (length s / 256) i u.put.new.0 d.few (index-size v.before) (omega (arith, d.room, u.put.auto.0)) in
     (c.answer-of2.ensures ∙ w.0, v.close.ensures ∙ shut ∙ sets_then a.room.now s 0 (i ++ trailer (length s / 256) i) put (omega (arith, d.whole)) ∙ w.1)
 
 pub build-spec : {M : Type 1} → statement M

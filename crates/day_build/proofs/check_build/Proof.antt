@@ -4,7 +4,7 @@ use native.Mathlib.Omega.{arith}
 use Rattle.card.specs.declared.Refusal.{Refusal}
 use Rattle.card.specs.Refusals.{or_else}
 use Rattle.card.proofs.Chains.{neither}
-use Rattle.day.proofs.Builds.{build-odd, build-even}
+use Rattle.day.proofs.Builds.{build_odd, build_even}
 use borrow.Author.Rules.{rules}
 use Rattle.day_build.proofs.check_build.Statement.{statement}
 use Rattle.day_build.proofs.check_build.Tie as tie
@@ -17,7 +17,7 @@ returns c =
     let t = c.before in
     let a = t.before.before.before.args in
     let f = ap (λ (x : Refusal). x.number) c.new.ensures in
-    (c.new.ensures ∙ sym (build-odd a.images.now a.size t.if1.true), λ z. absurd (omega arith))
+    (c.new.ensures ∙ sym (build_odd a.images.now a.size t.if1.true), λ z. absurd (omega arith))
 
 gather-requires : tie.Need-gather-requires
 gather-requires c κs = search rules
@@ -38,7 +38,7 @@ returns-2 c =
     let e = g.before.before in
     let a = e.before.before.before.args in
     let w = c.or_else.ensures in (
-      w ∙ ap₂ or_else g.gather.ensures.0 r.refuse-room.ensures ∙ sym (build-even a.images.now a.size e.if1.false),
+      w ∙ ap₂ or_else g.gather.ensures.0 r.refuse-room.ensures ∙ sym (build_even a.images.now a.size e.if1.false),
       λ z. g.gather.ensures.1.1 (neither g.gather.result r.refuse-room.result (sym (ap (λ (x : Refusal). x.number) w) ∙ z)).first (search rules),
     )
 

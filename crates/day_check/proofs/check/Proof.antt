@@ -11,8 +11,8 @@ use Rattle.card.specs.declared.Refusal.{Refusal}
 use Rattle.ground.specs.Lists.{same_list}
 use Rattle.day.specs.Files.{fits, images_in, index_bytes, cards_refusal}
 use Rattle.day.proofs.Frames.{Framed, framed}
-use Rattle.day.proofs.Opens.{file-unframed, file-card, file-index, file-opens, index-lent}
-use Rattle.day.proofs.Builds.{laid-part, laid-file-refusal, laid_length}
+use Rattle.day.proofs.Opens.{file_unframed, file_card, file_index, file_opens, index_lent}
+use Rattle.day.proofs.Builds.{laid_part, laid_file_refusal, laid_length}
 use borrow.Author.Rules.{rules}
 use Rattle.day_check.proofs.check.Statement.{statement}
 use Rattle.day_check.proofs.check.Tie as tie
@@ -40,7 +40,7 @@ held c = omega (arith, size c)
 told : (c : tie.After-gather) → c.gather.result ≡ cards_refusal 0 (images_in (file c.before.before.before))
 told c =
     let k = c.before.before.before in
-    c.gather.ensures.0 ∙ laid-file-refusal (file k) k.count-in.result k.count-in.ensures (held k) (most k)
+    c.gather.ensures.0 ∙ laid_file_refusal (file k) k.count-in.result k.count-in.ensures (held k) (most k)
 
 index : (c : tie.Else2) → take (c.before.before.before.before.before.before.count-in.result * 14) c.before.before.before.gather.new.1.0
     ≡ index_bytes (images_in (file c.before.before.before.before.before.before))
@@ -49,7 +49,7 @@ index c =
     let k = g.before.before.before in
     ap (λ (m : ℕ). take m g.gather.new.1.0) (sym (laid_length (file k) k.count-in.result k.count-in.ensures (held k)))
     ∙ g.gather.ensures.1.1 c.if2.false (search rules)
-    ∙ ap index_bytes (laid-part (file k) k.count-in.result k.count-in.ensures (held k))
+    ∙ ap index_bytes (laid_part (file k) k.count-in.result k.count-in.ensures (held k))
 
 is-framed-requires : tie.Need-is-framed-requires
 is-framed-requires c κs = search rules
@@ -60,7 +60,7 @@ new-requires c κs = search rules
 returns : tie.Need-returns
 returns c =
     let t = c.before in
-    c.new.ensures ∙ sym (file-unframed t.before.before.before.args.file.now (sym t.before.is_framed.ensures ∙ not_true _ t.if1.true))
+    c.new.ensures ∙ sym (file_unframed t.before.before.before.args.file.now (sym t.before.is_framed.ensures ∙ not_true _ t.if1.true))
 
 count-in-requires : tie.Need-count-in-requires
 count-in-requires c κs = search rules
@@ -83,7 +83,7 @@ returns-2 : tie.Need-returns-2
 returns-2 c =
     let g = c.before.before.before in
     let e = g.before.before.before.before in
-    told g ∙ sym (file-card (file g.before.before.before) (fits-true e) (λ z. c.if2.true (ap (λ (x : Refusal). x.number) (told g) ∙ z)))
+    told g ∙ sym (file_card (file g.before.before.before) (fits-true e) (λ z. c.if2.true (ap (λ (x : Refusal). x.number) (told g) ∙ z)))
 
 mul-end : tie.Need-overflow-mul-end
 mul-end c = omega (arith, most c.before.before.before.before.before.before)
@@ -124,8 +124,8 @@ returns-3 c =
     let g = b.before.before.before in
     let k = g.before.before.before in
     let z : (cards_refusal 0 (images_in (file k))).number ≡ 0 = sym (ap (λ (x : Refusal). x.number) (told g)) ∙ b.if2.false in
-    let w = ap₂ same_list (sym (index-lent (file k) k.count-in.result k.count-in.ensures)) (sym (index b)) ∙ sym i.is_same.ensures ∙ not_true _ c.before.if3.true in
-    c.new2.ensures ∙ sym (file-index (file k) (fits-true k.before) z w)
+    let w = ap₂ same_list (sym (index_lent (file k) k.count-in.result k.count-in.ensures)) (sym (index b)) ∙ sym i.is_same.ensures ∙ not_true _ c.before.if3.true in
+    c.new2.ensures ∙ sym (file_index (file k) (fits-true k.before) z w)
 
 none-requires : tie.Need-none-requires
 none-requires c κs = search rules
@@ -137,8 +137,8 @@ returns-4 c =
     let g = b.before.before.before in
     let k = g.before.before.before in
     let z : (cards_refusal 0 (images_in (file k))).number ≡ 0 = sym (ap (λ (x : Refusal). x.number) (told g)) ∙ b.if2.false in
-    let w = ap₂ same_list (sym (index-lent (file k) k.count-in.result k.count-in.ensures)) (sym (index b)) ∙ sym i.is_same.ensures ∙ not_false _ c.before.if3.false in
-    c.none.ensures ∙ sym (file-opens (file k) (fits-true k.before) z w)
+    let w = ap₂ same_list (sym (index_lent (file k) k.count-in.result k.count-in.ensures)) (sym (index b)) ∙ sym i.is_same.ensures ∙ not_false _ c.before.if3.false in
+    c.none.ensures ∙ sym (file_opens (file k) (fits-true k.before) z w)
 
 pub check-spec : {M : Type 1} → statement M
 check-spec =

@@ -4,8 +4,8 @@ use native.Mathlib.Omega.{arith}
 use Rattle.card.specs.declared.Refusal.{Refusal}
 use Rattle.day.specs.Files.{file_refusal}
 use Rattle.day.proofs.Frames.{Framed}
-use Rattle.day.proofs.Opens.{opened, index-lent}
-use Rattle.day.proofs.Finding.{find-file, find-told, refused-find}
+use Rattle.day.proofs.Opens.{opened, index_lent}
+use Rattle.day.proofs.Finding.{find_file, find_told, refused_find}
 use borrow.Author.Rules.{rules}
 use Rattle.day_find.proofs.find.Statement.{statement}
 use Rattle.day_find.proofs.find.Tie as tie
@@ -30,8 +30,8 @@ returns c =
     let a = k.before.before.before.args in
     let e = k.check.ensures in
     c.answer-of.ensures
-    ∙ refused-find a.file.now a.number.now k.check.result
-    (e ∙ sym (find-file a.file.now a.number.now (λ z. t.if1.true (ap (λ (x : Refusal). x.number) e ∙ z)))) t.if1.true
+    ∙ refused_find a.file.now a.number.now k.check.result
+    (e ∙ sym (find_file a.file.now a.number.now (λ z. t.if1.true (ap (λ (x : Refusal). x.number) e ∙ z)))) t.if1.true
 
 count-in-requires : tie.Need-count-in-requires
 count-in-requires c κs = search rules
@@ -66,9 +66,9 @@ returns-2 c =
     let f = p.before in
     let k = f.before.before in
     let a = k.before.before.before.before.before.before.args in
-    let e = index-lent a.file.now k.count-in.result k.count-in.ensures in
+    let e = index_lent a.file.now k.count-in.result k.count-in.ensures in
     c.answer-of2.ensures
-    ∙ find-told a.file.now a.number.now (zero k.before) _ e k.count-in.result f.first-of.result p.refuse-position.result k.count-in.ensures f.first-of.ensures p.refuse-position.ensures
+    ∙ find_told a.file.now a.number.now (zero k.before) _ e k.count-in.result f.first-of.result p.refuse-position.result k.count-in.ensures f.first-of.ensures p.refuse-position.ensures
 
 pub find_spec : {M : Type 1} → statement M
 find_spec =

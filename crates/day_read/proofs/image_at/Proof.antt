@@ -2,7 +2,7 @@
 use mathlib.Core.Path.{sym, ap, ◌∙◌}
 use native.Mathlib.Omega.{arith}
 use Rattle.card.specs.declared.Refusal.{Refusal}
-use Rattle.day.proofs.Positions.{Placed, placed, refused-image, told-image}
+use Rattle.day.proofs.Positions.{Placed, placed, refused_image, told_image}
 use borrow.Author.Rules.{rules}
 use Rattle.day_read.proofs.image_at.Statement.{statement}
 use Rattle.day_read.proofs.image_at.Tie as tie
@@ -21,7 +21,7 @@ returns c =
     let t = c.before in
     let k = t.before.before in
     let a = k.before.before.args in
-    refused-image a.file.now a.position k.check-position.result k.check-position.ensures t.if1.true
+    refused_image a.file.now a.position k.check-position.result k.check-position.ensures t.if1.true
 
 mul_at : tie.Need-overflow-mul-at
 mul_at c = omega (arith, (place c).there, (place c).file.frame.most)
@@ -43,7 +43,7 @@ returns-2 c =
     let t = c.before in
     let k = t.before.before in
     let a = k.before.before.args in
-    told-image a.file.now a.position k.check-position.result k.check-position.ensures t.if1.false
+    told_image a.file.now a.position k.check-position.result k.check-position.ensures t.if1.false
 
 pub image-at-spec : {M : Type 1} → statement M
 image-at-spec =

@@ -2,7 +2,7 @@
 use mathlib.Core.Path.{sym, ap, ◌∙◌}
 use native.Mathlib.Omega.{arith}
 use Rattle.card.specs.declared.Refusal.{Refusal}
-use Rattle.day.proofs.Positions.{Placed, placed, refused-start, told-start}
+use Rattle.day.proofs.Positions.{Placed, placed, refused_start, told_start}
 use borrow.Author.Rules.{rules}
 use Rattle.day_read.proofs.image_start.Statement.{statement}
 use Rattle.day_read.proofs.image_start.Tie as tie
@@ -21,7 +21,7 @@ returns c =
     let t = c.before in
     let k = t.before.before in
     let a = k.before.before.args in
-    c.answer-of.ensures ∙ refused-start a.file.now a.position k.check-position.result k.check-position.ensures t.if1.true
+    c.answer-of.ensures ∙ refused_start a.file.now a.position k.check-position.result k.check-position.ensures t.if1.true
 
 mul-answer-of : tie.Need-overflow-mul-answer-of
 mul-answer-of c = omega (arith, (place c).there, (place c).file.frame.most)
@@ -33,7 +33,7 @@ returns-2 : tie.Need-returns-2
 returns-2 c =
     let k = c.before.before.before in
     let a = k.before.before.args in
-    c.answer-of2.ensures ∙ told-start a.file.now a.position k.check-position.result k.check-position.ensures
+    c.answer-of2.ensures ∙ told_start a.file.now a.position k.check-position.result k.check-position.ensures
 
 pub image-start-spec : {M : Type 1} → statement M
 image-start-spec =

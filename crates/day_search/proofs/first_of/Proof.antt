@@ -10,7 +10,7 @@ use Rattle.day.specs.Cards.{entry}
 use Rattle.day.specs.Index.{halved, told_at}
 use Rattle.day.specs.Calls.{number_formed, entries_in, position_in}
 use Rattle.day.proofs.Padded.{length_entry}
-use Rattle.day.proofs.Finding.{number-most}
+use Rattle.day.proofs.Finding.{number_most}
 use borrow.Author.Rules.{rules}
 use Rattle.day_search.proofs.first_of.Statement.{statement}
 use Rattle.day_search.proofs.first_of.Tie as tie
@@ -28,7 +28,7 @@ formed : (c : tie.Else1) → number_formed c.before.before.before.before.args.nu
 formed c = sym c.before.is_number.ensures ∙ not_false _ c.if1.false
 
 key-of-requires : tie.Need-key-of-requires
-key-of-requires c κs = number-most _ (formed c)
+key-of-requires c κs = number_most _ (formed c)
 
 slice-aggregate-rank : tie.Need-slice-aggregate-rank
 slice-aggregate-rank c = search rules

@@ -9,7 +9,7 @@ use lib.Seq.{length-take-le}
 use Rattle.ground.specs.Lists.{same_list}
 use Rattle.day_index.proofs.Parts.{length_pieces}
 use Rattle.day.specs.Calls.{entries_in}
-use Rattle.day.proofs.Finding.{past_all, unlike, like, front-lent, position-lent}
+use Rattle.day.proofs.Finding.{past_all, unlike, like, front_lent, position_lent}
 use borrow.Author.Rules.{rules}
 use Rattle.day_search.proofs.told_at.Statement.{statement}
 use Rattle.day_search.proofs.told_at.Tie as tie
@@ -48,7 +48,7 @@ returns-2 c =
     let n = length a.index.now / 14 in
     let h : a.k < n = omega arith in
     unlike a.key.now (entries_in a.index.now) n a.k (length_pieces 14 n a.index.now) h
-    (ap (λ (x : List ℕ). same_list x (take 12 a.key.now)) (sym (front-lent a.index.now n a.k h)) ∙ sym i.is_same.ensures ∙ not_true _ c.if2.true)
+    (ap (λ (x : List ℕ). same_list x (take 12 a.key.now)) (sym (front_lent a.index.now n a.k h)) ∙ sym i.is_same.ensures ∙ not_true _ c.if2.true)
 
 shared-slice-read-wide : tie.Need-shared-slice-read-wide
 shared-slice-read-wide c = search rules
@@ -80,9 +80,9 @@ returns-3 c =
     let n = length a.index.now / 14 in
     let h : a.k < n = omega arith in
     ap₂ (λ (x y : ℕ). x * 256 + y) w.wide.ensures.0 c.wide2.ensures.0
-    ∙ position-lent a.index.now n a.k h
+    ∙ position_lent a.index.now n a.k h
     ∙ like a.key.now (entries_in a.index.now) n a.k (length_pieces 14 n a.index.now) h
-    (ap (λ (x : List ℕ). same_list x (take 12 a.key.now)) (sym (front-lent a.index.now n a.k h)) ∙ sym i.is_same.ensures ∙ not_false _ e.if2.false)
+    (ap (λ (x : List ℕ). same_list x (take 12 a.key.now)) (sym (front_lent a.index.now n a.k h)) ∙ sym i.is_same.ensures ∙ not_false _ e.if2.false)
 
 pub told-at-spec : {M : Type 1} → statement M
 told-at-spec =

@@ -1,6 +1,6 @@
 -- `is_framed` meets its contract: each of the three sizes that are wrong is a way not to be framed; where they are right the last eight bytes are compared with the trailer that is due. Assumes nothing.
 use mathlib.Core.Path.{sym, ◌∙◌}
-use Rattle.day.proofs.Frames.{too_short, too_many, other-size, by-trailer-lent}
+use Rattle.day.proofs.Frames.{too_short, too_many, other_size, by_trailer_lent}
 use native.Mathlib.Omega.{arith}
 use borrow.Author.Rules.{rules}
 use Rattle.day_trailer.proofs.is_framed.Statement.{statement}
@@ -27,7 +27,7 @@ returns-3 : tie.Need-returns-3
 returns-3 c =
     let s = c.before.before.before.before.before.args.file.now in
     let e = c.before.before.count-in.ensures in
-    sym (other-size s (omega arith) (omega arith) (λ z. c.if3.true (omega arith)))
+    sym (other_size s (omega arith) (omega arith) (λ z. c.if3.true (omega arith)))
 
 mul-start : tie.Need-overflow-mul-start
 mul-start c = search rules
@@ -67,7 +67,7 @@ returns-4 c =
     let t = c.before.before.before in
     let n = t.before.before.before.before in
     let s = n.before.before.before.args.file.now in
-    c.is_same.ensures ∙ by-trailer-lent s n.count-in.result t.trailer-of.result n.count-in.ensures t.trailer-of.ensures (omega arith) (omega arith) (omega arith)
+    c.is_same.ensures ∙ by_trailer_lent s n.count-in.result t.trailer-of.result n.count-in.ensures t.trailer-of.ensures (omega arith) (omega arith) (omega arith)
 
 pub is-framed-spec : {M : Type 1} → statement M
 is-framed-spec =

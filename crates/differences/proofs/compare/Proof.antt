@@ -3,7 +3,7 @@ use mathlib.Core.Path.{◌≡◌}
 use native.Mathlib.Omega.{arith}
 use lib.ListN.{length, length-map}
 use Rattle.differences.proofs.Placed.{Stands, places_refused, places_accepted}
-use Rattle.differences.proofs.Told.{compared-first, compared-second, compared-both}
+use Rattle.differences.proofs.Told.{compared_first, compared_second, compared_both}
 use borrow.Author.Rules.{rules}
 use Rattle.differences.proofs.compare.Statement.{statement}
 use Rattle.differences.proofs.compare.Tie as tie
@@ -33,7 +33,7 @@ returns : tie.Need-returns
 returns c =
     let read = c.before.before.before.before in
     let a = read.before.before.before.args in
-    compared-first a.edition a.first.now a.second.now _ (places_refused _ _ _ read.places.ensures c.before.if1.true) _ c.refused.ensures
+    compared_first a.edition a.first.now a.second.now _ (places_refused _ _ _ read.places.ensures c.before.if1.true) _ c.refused.ensures
 
 places-requires-2 : tie.Need-places-requires-2
 places-requires-2 c κs = search rules
@@ -46,7 +46,7 @@ returns-2 c =
     let read = c.before.before.before.before in
     let one = first-stands read.before in
     let a = read.before.before.before.before.before.before.before.args in
-    compared-second a.edition a.first.now a.second.now _ one.is _ (places_refused _ _ _ read.places2.ensures c.before.if2.true) _ c.refused2.ensures
+    compared_second a.edition a.first.now a.second.now _ one.is _ (places_refused _ _ _ read.places2.ensures c.before.if2.true) _ c.refused2.ensures
 
 slice-aggregate-put-objects : tie.Need-slice-aggregate-put-objects
 slice-aggregate-put-objects c = search rules
@@ -76,7 +76,7 @@ returns-3 c =
     let one = first-stands e.before.before.before.before in
     let two = second-stands e in
     let a = e.before.before.before.before.before.before.before.before.before.before.args in
-    compared-both a.edition a.first.now a.second.now _ _ one.is two.is one.long two.long _ _ _ _ objects.put-objects.ensures.0 bytes.put-bytes.ensures _ c.none.ensures
+    compared_both a.edition a.first.now a.second.now _ _ one.is two.is one.long two.long _ _ _ _ objects.put-objects.ensures.0 bytes.put-bytes.ensures _ c.none.ensures
 
 pub compare-spec : {M : Type 1} → statement M
 compare-spec =

@@ -4,7 +4,7 @@ use native.Mathlib.Omega.{arith}
 use mathlib.Core.Path.{◌≡◌, refl, ◌∙◌}
 use borrow.Author.Rules.{rules}
 use Rattle.example.specs.Cards.{enough, first_from}
-use Rattle.example.proofs.Chosen.{chosen-here, chosen-turn, chosen_all}
+use Rattle.example.proofs.Chosen.{chosen_here, chosen_turn, chosen_all}
 use Rattle.example_choice.proofs.chosen_card.Statement.{statement}
 use Rattle.example_choice.proofs.chosen_card.Tie as tie
 
@@ -30,7 +30,7 @@ returns : tie.Need-returns invariant-loop decreases-loop
 returns c =
     let size = c.before in
     let card = size.before in
-    chosen-here _ _ _ _ _ size.objects-size.result card.card-of.ensures size.objects-size.ensures.1 card.before.before.loop.invariant.1 c.if1.true
+    chosen_here _ _ _ _ _ size.objects-size.result card.card-of.ensures size.objects-size.ensures.1 card.before.before.loop.invariant.1 c.if1.true
 
 add-long : tie.Need-overflow-add-long invariant-loop decreases-loop
 add-long c = search rules
@@ -42,7 +42,7 @@ loop-again : tie.Need-loop-preserved invariant-loop decreases-loop
 loop-again c =
     let size = c.before in
     let card = size.before in
-    (search rules, chosen-turn _ _ _ _ _ size.objects-size.result card.card-of.ensures size.objects-size.ensures.1 card.before.before.loop.invariant.1 (omega arith) c.if1.false)
+    (search rules, chosen_turn _ _ _ _ _ size.objects-size.result card.card-of.ensures size.objects-size.ensures.1 card.before.before.loop.invariant.1 (omega arith) c.if1.false)
 
 card-of-requires-2 : tie.Need-card-of-requires-2 invariant-loop decreases-loop
 card-of-requires-2 c κs = search rules

@@ -9,7 +9,7 @@ use Rattle.edition.specs.declared.Row.{Row}
 use Rattle.edition.specs.Rows.{no_row}
 use Rattle.card.specs.Content.{object_of}
 use Rattle.example.specs.Cards.{listed, length_at, value_for, value_at, values_of}
-use Rattle.example.proofs.Listed.{listed_more, listed-all}
+use Rattle.example.proofs.Listed.{listed_more, listed_all}
 use Rattle.example_objects.proofs.objects_of.Statement.{statement}
 use Rattle.example_objects.proofs.objects_of.Tie as tie
 
@@ -82,7 +82,7 @@ returns c =
     let a = c.before.before in
     let e : l.k ≡ 16 = omega arith in
     let made : l.objects ≡ map object_of (listed 16 (value_at a.before.args.t1 a.before.args.t2 a.rows-for.result a.before.args.told a.before.args.long)) =
-    rw e at (listed-all object_of _ l.objects l.k l.invariant.2 (omega arith)) in
+    rw e at (listed_all object_of _ l.objects l.k l.invariant.2 (omega arith)) in
     rw a.rows-for.ensures at made
 
 pub objects-of-spec : {M : Type 1} → statement M

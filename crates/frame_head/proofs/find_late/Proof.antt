@@ -6,7 +6,7 @@ use native.Mathlib.Omega.{arith}
 use lib.ListN.{drop}
 use Rattle.ground.specs.Lists.{agree}
 use Rattle.card.specs.Layout.{identifier}
-use Rattle.ground.proofs.Runs.{part-stops, part-passes}
+use Rattle.ground.proofs.Runs.{part_stops, part_passes}
 use Rattle.frame.proofs.Heads.{body, last, behind_identifier, over_last}
 use Rattle.frame_head.specs.Late.{late_end}
 use borrow.Author.Rules.{rules}
@@ -35,7 +35,7 @@ returns : tie.Need-returns
 unfolding identifier late_end
 returns c =
     let s = c.before.before.before.before.before.args.image.now in
-    part-stops s 21 6 identifier (behind_identifier s) c.before.count_same.ensures (omega arith) c.if1.true
+    part_stops s 21 6 identifier (behind_identifier s) c.before.count_same.ensures (omega arith) c.if1.true
 
 -- what is left of the head once the identifier is passed
 abbrev image-of : tie.Else1 → List ℕ
@@ -43,7 +43,7 @@ image-of c = c.before.before.before.before.before.args.image.now
 
 at_body : (c : tie.Else1) → late_end (image-of c) ≡ 27 + agree (behind_identifier (image-of c)) (drop 27 (image-of c))
 unfolding identifier late_end
-at_body c = part-passes (image-of c) 21 6 identifier (behind_identifier (image-of c)) c.before.count_same.ensures (omega arith) c.if1.false
+at_body c = part_passes (image-of c) 21 6 identifier (behind_identifier (image-of c)) c.before.count_same.ensures (omega arith) c.if1.false
 
 sub-count-same-2 : tie.Need-overflow-sub-count-same-2
 sub-count-same-2 c = search rules
@@ -67,7 +67,7 @@ returns-2 : tie.Need-returns-2
 returns-2 c =
     let b = c.before.before.before.before in
     let s = image-of b in
-    part-stops s 27 2 body (last s) c.before.count-same2.ensures (omega arith) c.if2.true ∙ sym (at_body b)
+    part_stops s 27 2 body (last s) c.before.count-same2.ensures (omega arith) c.if2.true ∙ sym (at_body b)
 
 returns-3 : tie.Need-returns-3
 returns-3 c =
@@ -75,7 +75,7 @@ returns-3 c =
     let s = image-of b in
     sym
     (at_body b
-    ∙ part-passes s 27 2 body (last s) c.before.count-same2.ensures (omega arith) c.if2.false
+    ∙ part_passes s 27 2 body (last s) c.before.count-same2.ensures (omega arith) c.if2.false
     ∙ over_last s (omega (arith, b.before.before.before.before.before)))
 
 pub find-late-spec : {M : Type 1} → statement M

@@ -6,8 +6,8 @@ use native.Mathlib.Omega.{arith}
 use lib.ListN.{drop}
 use Rattle.ground.specs.Lists.{agree}
 use Rattle.card.specs.Frame.{head_end}
-use Rattle.ground.proofs.Runs.{part-stops, part-passes}
-use Rattle.frame.proofs.Heads.{chip, application, behind_chip, behind_application, from-chip, over-free}
+use Rattle.ground.proofs.Runs.{part_stops, part_passes}
+use Rattle.frame.proofs.Heads.{chip, application, behind_chip, behind_application, from_chip, over_free}
 use Rattle.frame_head.specs.Late.{late_end}
 use borrow.Author.Rules.{rules}
 use Rattle.frame_head.proofs.find_wrong.Statement.{statement}
@@ -34,7 +34,7 @@ add-result c = search rules
 returns : tie.Need-returns
 returns c =
     let s = c.before.before.before.before.before.args.image.now in
-    part-stops s 1 5 chip (behind_chip s) c.before.count_same.ensures (omega arith) c.if1.true ∙ sym (from-chip s (omega arith))
+    part_stops s 1 5 chip (behind_chip s) c.before.count_same.ensures (omega arith) c.if1.true ∙ sym (from_chip s (omega arith))
 
 -- what is left of the head once a part is passed
 abbrev image-of : tie.Else1 → List ℕ
@@ -43,9 +43,9 @@ image-of c = c.before.before.before.before.before.args.image.now
 at-application : (c : tie.Else1) → head_end (image-of c) ≡ 17 + agree (application ++ behind_application (image-of c)) (drop 17 (image-of c))
 at-application c =
     let s = image-of c in
-    from-chip s (omega arith)
-    ∙ part-passes s 1 5 chip (behind_chip s) c.before.count_same.ensures (omega arith) c.if1.false
-    ∙ over-free s (omega arith)
+    from_chip s (omega arith)
+    ∙ part_passes s 1 5 chip (behind_chip s) c.before.count_same.ensures (omega arith) c.if1.false
+    ∙ over_free s (omega arith)
 
 abbrev first_of : tie.Else2 → tie.Else1
 first_of c = c.before.before.before.before
@@ -54,7 +54,7 @@ at-identifier : (c : tie.Else2) → head_end (image-of (first_of c)) ≡ 21 + ag
 at-identifier c =
     let s = image-of (first_of c) in
     at-application (first_of c)
-    ∙ part-passes s 17 4 application (behind_application s) c.before.count-same2.ensures (omega arith) c.if2.false
+    ∙ part_passes s 17 4 application (behind_application s) c.before.count-same2.ensures (omega arith) c.if2.false
 
 sub-count-same-2 : tie.Need-overflow-sub-count-same-2
 sub-count-same-2 c = search rules
@@ -78,7 +78,7 @@ returns-2 : tie.Need-returns-2
 returns-2 c =
     let b = c.before.before.before.before in
     let s = image-of b in
-    part-stops s 17 4 application (behind_application s) c.before.count-same2.ensures (omega arith) c.if2.true ∙ sym (at-application b)
+    part_stops s 17 4 application (behind_application s) c.before.count-same2.ensures (omega arith) c.if2.true ∙ sym (at-application b)
 
 find-late-requires : tie.Need-find-late-requires
 find-late-requires c κs = search rules

@@ -5,7 +5,7 @@ use native.Mathlib.Omega.{arith}
 use lib.ListN.{length}
 use Rattle.lengths.specs.Lengths.{length_field}
 use Rattle.card.proofs.Room.{room}
-use Rattle.frame.proofs.Tails.{in-tag, in-length, in-spaces, in-last}
+use Rattle.frame.proofs.Tails.{in_tag, in_length, in_spaces, in_last}
 use borrow.Author.Rules.{rules}
 use Rattle.frame_parts.proofs.number_part.Statement.{statement}
 use Rattle.frame_parts.proofs.number_part.Tie as tie
@@ -22,12 +22,12 @@ lead-size-requires c κs = search rules
 returns : tie.Need-returns
 returns c =
     let l = c.before in
-    in-tag _ _ _ _ l.before.count-spaces.ensures l.lead-size.ensures c.if1.true
+    in_tag _ _ _ _ l.before.count-spaces.ensures l.lead-size.ensures c.if1.true
 
 returns-2 : tie.Need-returns-2
 returns-2 c =
     let l = c.before.before in
-    in-length _ _ _ _ l.before.count-spaces.ensures l.lead-size.ensures c.before.if1.false c.if2.true
+    in_length _ _ _ _ l.before.count-spaces.ensures l.lead-size.ensures c.before.if1.false c.if2.true
 
 add-if3 : tie.Need-overflow-add-if3
 add-if3 c =
@@ -40,12 +40,12 @@ add-if3 c =
 returns-3 : tie.Need-returns-3
 returns-3 c =
     let l = c.before.before.before in
-    in-spaces _ _ _ _ l.before.count-spaces.ensures l.lead-size.ensures c.before.before.if1.false c.before.if2.false c.if3.true
+    in_spaces _ _ _ _ l.before.count-spaces.ensures l.lead-size.ensures c.before.before.if1.false c.before.if2.false c.if3.true
 
 returns-4 : tie.Need-returns-4
 returns-4 c =
     let l = c.before.before.before in
-    in-last _ _ _ _ l.before.count-spaces.ensures l.lead-size.ensures c.before.before.if1.false c.if3.false
+    in_last _ _ _ _ l.before.count-spaces.ensures l.lead-size.ensures c.before.before.if1.false c.if3.false
 
 pub number-part-spec : {M : Type 1} → statement M
 number-part-spec =

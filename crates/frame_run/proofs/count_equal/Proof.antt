@@ -4,7 +4,7 @@ use Prim.Native.Nat.{◌+◌, ◌-◌, ◌≤◌}
 use native.Mathlib.Omega.{arith}
 use lib.ListN.{length, drop, replicate}
 use Rattle.ground.specs.Lists.{agree}
-use Rattle.ground.proofs.Runs.{run-pass, run-stop, run_end}
+use Rattle.ground.proofs.Runs.{run_pass, run_stop, run_end}
 use Rattle.frame_run.proofs.count_equal.Statement.{statement}
 use Rattle.frame_run.proofs.count_equal.Tie as tie
 
@@ -25,7 +25,7 @@ returns c =
     let l = c.before.before.before.loop in
     let p = c.before.before.before.before.args.part.now in
     let b = c.before.before.before.before.args.b in
-    sym (run-stop p b l.i (omega arith) c.if1.true) ∙ l.invariant.1
+    sym (run_stop p b l.i (omega arith) c.if1.true) ∙ l.invariant.1
 
 add-i : tie.Need-overflow-add-i invariant-loop decreases-loop
 add-i c = omega arith
@@ -38,7 +38,7 @@ loop-again c =
     let l = c.before.before.before.loop in
     let p = c.before.before.before.before.args.part.now in
     let b = c.before.before.before.before.args.b in
-    (omega arith, sym (run-pass p b l.i (omega arith) c.if1.false) ∙ l.invariant.1)
+    (omega arith, sym (run_pass p b l.i (omega arith) c.if1.false) ∙ l.invariant.1)
 
 returns-2 : tie.Need-returns-2 invariant-loop decreases-loop
 returns-2 c =

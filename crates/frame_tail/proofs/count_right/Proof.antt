@@ -1,6 +1,6 @@
 -- `frame_tail::count_right` meets its contract: each part is passed or holds the first difference. Assumes nothing.
 use native.Mathlib.Omega.{arith}
-use Rattle.frame.proofs.Tails.{Placed, sizes, lead-stops, spaces-stop, ends-differ, ends_same}
+use Rattle.frame.proofs.Tails.{Placed, sizes, lead_stops, spaces_stop, ends_differ, ends_same}
 use borrow.Author.Rules.{rules}
 use Rattle.frame_tail.proofs.count_right.Statement.{statement}
 use Rattle.frame_tail.proofs.count_right.Tie as tie
@@ -18,7 +18,7 @@ placed : (c : tie.After-lead-size) → Placed c.before.before.before.args.part.n
 placed c = record {
   least = omega (arith, c.before.before.before);
   most = omega (arith, c.before.before.before);
-  n-is = c.before.count-spaces.ensures;
+  n_is = c.before.count-spaces.ensures;
   start_is = c.lead-size.ensures;
 }
 
@@ -26,7 +26,7 @@ lead-same-requires : tie.Need-lead-same-requires
 lead-same-requires c κs = (search rules, (sizes _ _ _ (placed c)).small)
 
 returns : tie.Need-returns
-returns c = lead-stops _ _ _ (placed c.before.before) c.before.lead-same.ensures c.if1.true
+returns c = lead_stops _ _ _ (placed c.before.before) c.before.lead-same.ensures c.if1.true
 
 add-stop : tie.Need-overflow-add-stop
 add-stop c = let z = sizes _ _ _ (placed c.before.before) in omega (arith, z.some)
@@ -49,7 +49,7 @@ add-result c = let z = sizes _ _ _ (placed c.before.before.before.before.before)
 returns-2 : tie.Need-returns-2
 returns-2 c =
     let k = c.before.before.before.before in
-    spaces-stop _ _ _ (placed k.before) k.lead-same.ensures c.before.before.before.if1.false c.before.count-run.ensures c.if2.true
+    spaces_stop _ _ _ (placed k.before) k.lead-same.ensures c.before.before.before.if1.false c.before.count-run.ensures c.if2.true
 
 shared-slice-read-if3 : tie.Need-shared-slice-read-if3
 shared-slice-read-if3 c = let z = sizes _ _ _ (placed c.before.before.before.before.before.before) in z.some
@@ -64,7 +64,7 @@ returns-3 : tie.Need-returns-3
 returns-3 c =
     let d = c.before.before.before in
     let k = d.before.before.before.before in
-    ends-differ _ _ _ (placed k.before) k.lead-same.ensures d.before.before.before.if1.false d.before.count-run.ensures d.if2.false c.if3.true
+    ends_differ _ _ _ (placed k.before) k.lead-same.ensures d.before.before.before.if1.false d.before.count-run.ensures d.if2.false c.if3.true
 
 returns-4 : tie.Need-returns-4
 returns-4 c =

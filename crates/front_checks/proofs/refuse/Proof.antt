@@ -5,7 +5,7 @@ use Rattle.edition.specs.Tables.{terminal}
 use Rattle.card.specs.declared.Refusal.{Refusal}
 use Rattle.card.specs.Content.{content_of}
 use Rattle.card.specs.Refusing.{edition_refusal}
-use Rattle.front.proofs.Gates.{print-own, print-20, print-lines}
+use Rattle.front.proofs.Gates.{print_own, print_20, print_lines}
 use borrow.Author.Rules.{rules}
 use Rattle.front_checks.proofs.refuse.Statement.{statement}
 use Rattle.front_checks.proofs.refuse.Tie as tie
@@ -24,7 +24,7 @@ returns : tie.Need-returns
 returns c =
     let check = c.before.before in
     let a = check.before.before.args in
-    own check ∙ sym (print-own a.fund (content_of a.content) a.size (λ z. c.if1.true (ap (λ (r : Refusal). r.number) (own check) ∙ z)))
+    own check ∙ sym (print_own a.fund (content_of a.content) a.size (λ z. c.if1.true (ap (λ (r : Refusal). r.number) (own check) ∙ z)))
 
 new-requires : tie.Need-new-requires
 new-requires c κs = search rules
@@ -38,7 +38,7 @@ returns-2 c =
     let wrong = c.before in
     let else = wrong.before in
     let a = else.before.before.before.before.args in
-    c.new.ensures ∙ sym (print-20 a.fund (content_of a.content) a.size (zero else) wrong.if2.true)
+    c.new.ensures ∙ sym (print_20 a.fund (content_of a.content) a.size (zero else) wrong.if2.true)
 
 refuse-lines-requires : tie.Need-refuse-lines-requires
 refuse-lines-requires c κs = search rules
@@ -48,7 +48,7 @@ returns-3 c =
     let right = c.before in
     let else = right.before in
     let a = else.before.before.before.before.args in
-    c.refuse-lines.ensures ∙ sym (print-lines a.fund (content_of a.content) a.size (zero else) right.if2.false)
+    c.refuse-lines.ensures ∙ sym (print_lines a.fund (content_of a.content) a.size (zero else) right.if2.false)
 
 pub refuse-spec : {M : Type 1} → statement M
 refuse-spec = tie.close (tie.spec terminal-requires check-content-requires returns new-requires returns-2 refuse-lines-requires returns-3)

@@ -9,7 +9,7 @@ use Rattle.front.specs.Refusing.{is_there}
 use Rattle.front.specs.Placing.{signed}
 use Rattle.front.proofs.Values.{value_at_lem}
 use Rattle.front.proofs.Signs.{blank_none, sign_there, there_none, there_some}
-use Rattle.front.proofs.Gates.{lines-30, lines-31, lines-32, lines_none}
+use Rattle.front.proofs.Gates.{lines_30, lines_31, lines_32, lines_none}
 use borrow.Author.Rules.{rules}
 use Rattle.front_checks.proofs.refuse_lines.Statement.{statement}
 use Rattle.front_checks.proofs.refuse_lines.Tie as tie
@@ -32,7 +32,7 @@ returns c =
     let none = c.before in
     let shown = none.before in
     let a = shown.before.before.args in
-    c.new.ensures ∙ sym (lines-30 a.fund (content_of a.t1) (sym (sign shown) ∙ blank_none shown.shown-addition.result none.if1.true))
+    c.new.ensures ∙ sym (lines_30 a.fund (content_of a.t1) (sym (sign shown) ∙ blank_none shown.shown-addition.result none.if1.true))
 
 element-copy-out-validity : tie.Need-element-copy-out-validity
 element-copy-out-validity c = search rules
@@ -55,7 +55,7 @@ returns-2 c =
     let none = c.before in
     let else = none.before.before.before in
     let a = else.before.before.before.args in
-    c.new2.ensures ∙ sym (lines-31 a.fund (content_of a.t1) (there else) (validity a.t1 false (there_none (get_or a.t1.objects 15 no_object) none.if2.true)))
+    c.new2.ensures ∙ sym (lines_31 a.fund (content_of a.t1) (there else) (validity a.t1 false (there_none (get_or a.t1.objects 15 no_object) none.if2.true)))
 
 has-underscores-requires : tie.Need-has-underscores-requires
 has-underscores-requires c κs = search rules
@@ -73,7 +73,7 @@ returns-3 c =
     let rest = mark.before in
     let else = rest.before.before.before in
     let a = else.before.before.before.args in
-    c.new3.ensures ∙ sym (lines-32 a.fund (content_of a.t1) (there else) (valid rest) (sym mark.has-underscores.ensures ∙ c.before.if3.true))
+    c.new3.ensures ∙ sym (lines_32 a.fund (content_of a.t1) (there else) (valid rest) (sym mark.has-underscores.ensures ∙ c.before.if3.true))
 
 none-requires : tie.Need-none-requires
 none-requires c κs = search rules

@@ -7,7 +7,7 @@ use lib.Seq.{get_or-take, length-take-le}
 use Rattle.ground.specs.Lists.{among}
 use Rattle.card.specs.Content.{value_of}
 use Rattle.front.proofs.Placed.{least_most}
-use Rattle.front.proofs.Marks.{mark-here, mark-next, mark-end, mark_held}
+use Rattle.front.proofs.Marks.{mark_here, mark_next, mark_end, mark_held}
 use borrow.Author.Rules.{rules}
 use Rattle.front_marks.proofs.has_underscore.Statement.{statement}
 use Rattle.front_marks.proofs.has_underscore.Tie as tie
@@ -48,7 +48,7 @@ returns c =
     let bytes = n.before.args.item.bytes in
     sym
     (all n ∙ sym l.invariant.1
-    ∙ mark-here 0x5F (take n.claimed.result bytes) l.i (omega (arith, long n)) (get_or-take n.claimed.result bytes l.i 0 (omega arith) ∙ c.if1.true))
+    ∙ mark_here 0x5F (take n.claimed.result bytes) l.i (omega (arith, long n)) (get_or-take n.claimed.result bytes l.i 0 (omega arith) ∙ c.if1.true))
 
 add-i : tie.Need-overflow-add-i invariant-loop decreases-loop
 add-i c = omega (arith, few c.before.before.before.before)
@@ -62,14 +62,14 @@ loop-again c =
     let n = c.before.before.before.before in
     let bytes = n.before.args.item.bytes in (
       omega arith,
-      sym (mark-next 0x5F (take n.claimed.result bytes) l.i (omega (arith, long n)) (λ z. c.if1.false (sym (get_or-take n.claimed.result bytes l.i 0 (omega arith)) ∙ z))) ∙ l.invariant.1,
+      sym (mark_next 0x5F (take n.claimed.result bytes) l.i (omega (arith, long n)) (λ z. c.if1.false (sym (get_or-take n.claimed.result bytes l.i 0 (omega arith)) ∙ z))) ∙ l.invariant.1,
     )
 
 returns-2 : tie.Need-returns-2 invariant-loop decreases-loop
 returns-2 c =
     let l = c.before.loop in
     let n = c.before.before.before in
-    sym (all n ∙ sym l.invariant.1 ∙ mark-end 0x5F (take n.claimed.result n.before.args.item.bytes) l.i (omega (arith, long n)))
+    sym (all n ∙ sym l.invariant.1 ∙ mark_end 0x5F (take n.claimed.result n.before.args.item.bytes) l.i (omega (arith, long n)))
 
 pub has-underscore-spec : {M : Type 1} → statement M
 has-underscore-spec = tie.close (tie.spec invariant-loop decreases-loop claimed-requires loop-holds array-read-if1 returns add-i loop-less loop-again returns-2)

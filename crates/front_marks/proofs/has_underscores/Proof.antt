@@ -6,7 +6,7 @@ use native.Mathlib.Omega.{arith}
 use lib.ListN.{drop}
 use Rattle.card.specs.Content.{content_of}
 use Rattle.front.specs.Refusing.{printed_rows, underscored}
-use Rattle.front.proofs.Marks.{all_rows, row_below, rows-here, rows_next, rows_end}
+use Rattle.front.proofs.Marks.{all_rows, row_below, rows_here, rows_next, rows_end}
 use borrow.Author.Rules.{rules}
 use Rattle.front_marks.proofs.has_underscores.Statement.{statement}
 use Rattle.front_marks.proofs.has_underscores.Tie as tie
@@ -43,7 +43,7 @@ returns c =
     let mark = c.before in
     let l = mark.before.before.before.loop in
     let s = mark.before.before.before.before.before in
-    sym (sym l.invariant.1 ∙ rows-here s.args.t1 l.i (omega arith) (sym c.if1.true ∙ mark.has-underscore.ensures))
+    sym (sym l.invariant.1 ∙ rows_here s.args.t1 l.i (omega arith) (sym c.if1.true ∙ mark.has-underscore.ensures))
 
 add-i : tie.Need-overflow-add-i invariant-loop decreases-loop
 add-i c = omega arith

@@ -1,6 +1,6 @@
 -- `front_names::put_forenames` meets its contract, part by part. Assumes nothing.
 use native.Mathlib.Omega.{arith}
-use Rattle.front.proofs.NameLines.{fore-one, fore-two, fore-three, fore-all}
+use Rattle.front.proofs.NameLines.{fore_one, fore_two, fore_three, fore_all}
 use borrow.Author.Rules.{rules}
 use Rattle.front_names.proofs.put_forenames.Statement.{statement}
 use Rattle.front_names.proofs.put_forenames.Tie as tie
@@ -17,7 +17,7 @@ element-copy-out-prefix c = search rules
 put-part-requires : tie.Need-put-part-requires
 put-part-requires c κs =
     let s = c.before.before.before.before.before in
-    fore-one s.args.t3 s.args.room.now s.args.at s.requires.0 s.requires.1
+    fore_one s.args.t3 s.args.room.now s.args.at s.requires.0 s.requires.1
 
 sub-put-part : tie.Need-overflow-sub-put-part
 sub-put-part c = omega (arith, c.before.before.before.put-part.ensures.place)
@@ -26,7 +26,7 @@ put-part-requires-2 : tie.Need-put-part-requires-2
 put-part-requires-2 c κs =
     let title = c.before.before.before in
     let s = title.before.before.before.before.before.before in
-    fore-two s.args.t3 s.args.room.now s.args.at s.requires.0 s.requires.1 title.put-part.ensures
+    fore_two s.args.t3 s.args.room.now s.args.at s.requires.0 s.requires.1 title.put-part.ensures
 
 sub-put-part-2 : tie.Need-overflow-sub-put-part-2
 sub-put-part-2 c =
@@ -39,7 +39,7 @@ put-part-requires-3 c κs =
     let given = c.before.before.before in
     let title = given.before.before.before.before in
     let s = title.before.before.before.before.before.before in
-    fore-three s.args.t3 s.args.room.now s.args.at s.requires.0 s.requires.1 title.put-part.ensures given.put-part2.ensures
+    fore_three s.args.t3 s.args.room.now s.args.at s.requires.0 s.requires.1 title.put-part.ensures given.put-part2.ensures
 
 same_length : tie.Need-same-length
 same_length c = search rules
@@ -50,7 +50,7 @@ returns c =
     let given = prefix.before.before.before.before in
     let title = given.before.before.before.before in
     let s = title.before.before.before.before.before.before in
-    fore-all s.args.t3 s.args.room.now s.args.at s.requires.0 s.requires.1 title.put-part.ensures given.put-part2.ensures prefix.put-part3.ensures
+    fore_all s.args.t3 s.args.room.now s.args.at s.requires.0 s.requires.1 title.put-part.ensures given.put-part2.ensures prefix.put-part3.ensures
 
 pub put-forenames-spec : {M : Type 1} → statement M
 put-forenames-spec =

@@ -6,7 +6,7 @@ use Rattle.card.specs.Content.{content_of}
 use Rattle.front.specs.Lines.{spaced, forenames}
 use Rattle.front.proofs.Spaced.{item}
 use Rattle.front.proofs.Sizes.{end_held, end_past}
-use Rattle.front.proofs.NameLines.{names_long, family-held, family-end, one-there, two-there}
+use Rattle.front.proofs.NameLines.{names_long, family_held, family_end, one_there, two_there}
 use borrow.Author.Rules.{rules}
 use Rattle.front_names.proofs.put_lines.Statement.{statement}
 use Rattle.front_names.proofs.put_lines.Tie as tie
@@ -46,7 +46,7 @@ put-part-requires c κs =
     let then = c.before in
     let names = then.before.before.before.before.before in
     let s = names.before.before.before in
-    family-held s.args.t3 s.args.room.now s.args.at s.requires.1 names.put-forenames.ensures (whole then)
+    family_held s.args.t3 s.args.room.now s.args.at s.requires.1 names.put-forenames.ensures (whole then)
 
 add-fill : tie.Need-overflow-add-fill
 add-fill c = search rules
@@ -57,7 +57,7 @@ sub-fill c =
     let then = part.before.before in
     let names = then.before.before.before.before.before in
     let s = names.before.before.before in
-    family-end s.args.t3 s.args.room.now s.args.at s.requires.1 names.put-forenames.ensures (whole then) part.put-part.ensures
+    family_end s.args.t3 s.args.room.now s.args.at s.requires.1 names.put-forenames.ensures (whole then) part.put-part.ensures
 
 fill-requires : tie.Need-fill-requires
 fill-requires c κs = search rules
@@ -72,7 +72,7 @@ returns c =
     let then = part.before.before in
     let names = then.before.before.before.before.before in
     let s = names.before.before.before in
-    one-there s.args.t3 s.args.room.now s.args.at s.requires.1 names.put-forenames.ensures (whole then) part.put-part.ensures fill.fill.ensures.0 fill.fill.ensures.1
+    one_there s.args.t3 s.args.room.now s.args.at s.requires.1 names.put-forenames.ensures (whole then) part.put-part.ensures fill.fill.ensures.0 fill.fill.ensures.1
 
 add-fill-2 : tie.Need-overflow-add-fill-2
 add-fill-2 c = search rules
@@ -98,7 +98,7 @@ returns-2 c =
     let else = fill.before.before in
     let names = else.before.before.before.before.before in
     let s = names.before.before.before in
-    two-there s.args.t3 s.args.room.now s.args.at s.requires.1 names.put-forenames.ensures s.requires.0 (apart else) fill.fill2.ensures.0 fill.fill2.ensures.1 field.put-field.ensures.0 field.put-field.ensures.1
+    two_there s.args.t3 s.args.room.now s.args.at s.requires.1 names.put-forenames.ensures s.requires.0 (apart else) fill.fill2.ensures.0 fill.fill2.ensures.1 field.put-field.ensures.0 field.put-field.ensures.1
 
 pub put-lines-spec : {M : Type 1} → statement M
 put-lines-spec =

@@ -9,7 +9,7 @@ use Rattle.front.specs.Lines.{value}
 use Rattle.front.specs.Placing.{field_put}
 use Rattle.front.proofs.Values.{value_at_lem}
 use Rattle.front.proofs.Spaced.{item}
-use Rattle.front.proofs.Long.{filled-with, filled-without}
+use Rattle.front.proofs.Long.{filled_with, filled_without}
 use borrow.Author.Rules.{rules}
 use Rattle.front_print.proofs.put_lines.Statement.{statement}
 use Rattle.front_print.proofs.put_lines.Tie as tie
@@ -50,7 +50,7 @@ returns c =
     let then = names.before.before in
     let s = then.before.before in
     rw then.if1.true
-    (filled-with s.args.room.now _ _ (content_of s.args.t2) s.requires.0 s.requires.1 names.put-names.ensures.1 (named s.args.t2 _ field.put-field.ensures.1) numbers.put-numbers.ensures.1)
+    (filled_with s.args.room.now _ _ (content_of s.args.t2) s.requires.0 s.requires.1 names.put-names.ensures.1 (named s.args.t2 _ field.put-field.ensures.1) numbers.put-numbers.ensures.1)
 
 same-length-2 : tie.Need-same-length-2
 same-length-2 c = search rules
@@ -63,7 +63,7 @@ returns-2 c =
     let else = fill.before.before in
     let s = else.before.before in
     rw else.if1.false
-    (filled-without s.args.room.now _ _ (content_of s.args.t2) s.requires.0 s.requires.1 fill.fill.ensures.1 names.put-names2.ensures.1 numbers.put-numbers2.ensures.1)
+    (filled_without s.args.room.now _ _ (content_of s.args.t2) s.requires.0 s.requires.1 fill.fill.ensures.1 names.put-names2.ensures.1 numbers.put-numbers2.ensures.1)
 
 pub put-lines-spec : {M : Type 1} → statement M
 put-lines-spec =

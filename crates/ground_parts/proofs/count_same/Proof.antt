@@ -4,7 +4,7 @@ use Prim.Native.Nat.{◌+◌, ◌-◌, ◌≤◌}
 use native.Mathlib.Omega.{arith}
 use lib.ListN.{length, drop, drop_of_length-le}
 use Rattle.ground.specs.Lists.{agree}
-use Rattle.ground.proofs.Lists.{agree-pass, agree-stop, agree_end, agree_none_left}
+use Rattle.ground.proofs.Lists.{agree_pass, agree_stop, agree_end, agree_none_left}
 use Rattle.ground_parts.proofs.count_same.Statement.{statement}
 use Rattle.ground_parts.proofs.count_same.Tie as tie
 
@@ -35,7 +35,7 @@ returns-2 : tie.Need-returns-2 invariant-loop decreases-loop
 returns-2 c =
     let l = c.before.before.before.before.before.loop in
     let a = c.before.before.before.before.before.before.args in
-    sym (agree-stop a.want.now a.part.now l.i (omega arith) (omega arith) (λ e. c.if2.true (sym e))) ∙ l.invariant.2
+    sym (agree_stop a.want.now a.part.now l.i (omega arith) (omega arith) (λ e. c.if2.true (sym e))) ∙ l.invariant.2
 
 add-i : tie.Need-overflow-add-i invariant-loop decreases-loop
 add-i c = omega arith
@@ -47,7 +47,7 @@ loop-again : tie.Need-loop-preserved invariant-loop decreases-loop
 loop-again c =
     let l = c.before.before.before.before.before.loop in
     let a = c.before.before.before.before.before.before.args in
-    (omega arith, omega arith, sym (agree-pass a.want.now a.part.now l.i (omega arith) (omega arith) (sym c.if2.false)) ∙ l.invariant.2)
+    (omega arith, omega arith, sym (agree_pass a.want.now a.part.now l.i (omega arith) (omega arith) (sym c.if2.false)) ∙ l.invariant.2)
 
 returns-3 : tie.Need-returns-3 invariant-loop decreases-loop
 returns-3 c =

@@ -6,7 +6,7 @@ use borrow.Author.Tests.{eq-eqb, ne_eqb}
 use lib.ListN.{length}
 use Rattle.card.specs.Refusals.{gate}
 use Rattle.host.specs.Hosting.{hosted_of, room_after}
-use Rattle.host.proofs.Replies.{reply_long, room-is}
+use Rattle.host.proofs.Replies.{reply_long, room_is}
 use borrow.Author.Rules.{rules}
 use Rattle.host.proofs.host.Statement.{statement}
 use Rattle.host.proofs.host.Tie as tie
@@ -59,7 +59,7 @@ returns-2 c =
     let size = eq-eqb _ _ n.before.if1.false in
     let long = reply_long s a n.ask.ensures.1 in
     let w = rw (add-sub_cancel_left a.start a.count) at put.put-answer.ensures in
-    let r = room-is st.args.edition s st.args.command.now a n.ask.ensures.0 st.args.room.now _ _ w (omega (arith, long, n.before.if1.false, put.before.before.before)) in
+    let r = room_is st.args.edition s st.args.command.now a n.ask.ensures.0 st.args.room.now _ _ w (omega (arith, long, n.before.if1.false, put.before.before.before)) in
     (rw (c.none.ensures, size, r.0), rw size r.1)
 
 pub host-spec : {M : Type 1} → statement M

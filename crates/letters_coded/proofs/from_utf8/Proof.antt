@@ -4,7 +4,7 @@ use native.Mathlib.Omega.{arith}
 use borrow.Author.Rules.{rules}
 use lib.ListN.{length}
 use mathlib.Core.Path.{◌≡◌, sym, ap, ◌∙◌}
-use Rattle.letters.proofs.Coded.{Coding, coding_start, coding-next, coding-begun, coding-stop, code_end, coding-answer, coding-full, coding-end}
+use Rattle.letters.proofs.Coded.{Coding, coding_start, coding_next, coding_begun, coding_stop, code_end, coding_answer, coding_full, coding_end}
 use Rattle.letters_coded.proofs.from_utf8.Statement.{statement}
 use Rattle.letters_coded.proofs.from_utf8.Tie as tie
 
@@ -32,7 +32,7 @@ same_length c = c.before.before.before.before.loop.invariant.same
 returns : tie.Need-returns invariant-loop decreases-loop
 returns c =
     let l = c.before.before.before.before.loop.invariant in
-    coding-answer l (coding-full l c.if1.true)
+    coding_answer l (coding_full l c.if1.true)
 
 slice-write-room : tie.Need-slice-write-room invariant-loop decreases-loop
 slice-write-room c = omega arith
@@ -47,7 +47,7 @@ loop-again : tie.Need-loop-preserved invariant-loop decreases-loop
 loop-again c =
     let l = c.before.before.before.before.before.loop.invariant in
     let told = c.before.before.byte-for.ensures in
-    rw told (coding-next l c.before.before.before.before.loop-test.true (λ z. c.if2.true (told ∙ z)) c.before.if1.false)
+    rw told (coding_next l c.before.before.before.before.loop-test.true (λ z. c.if2.true (told ∙ z)) c.before.if1.false)
 
 is-first-requires : tie.Need-is-first-requires invariant-loop decreases-loop
 is-first-requires c κs = search rules
@@ -59,7 +59,7 @@ loop-again-2 : tie.Need-loop-preserved-2 invariant-loop decreases-loop
 loop-again-2 c =
     let l = c.before.before.before.before.before.before.before.loop.invariant in
     let none = sym c.before.before.before.before.byte-for.ensures ∙ c.before.before.if2.false in
-    coding-begun l c.before.before.before.before.before.before.loop-test.true none (rw c.before.is-first.ensures at c.if3.true)
+    coding_begun l c.before.before.before.before.before.before.loop-test.true none (rw c.before.is-first.ensures at c.if3.true)
 
 same-length-2 : tie.Need-same-length-2 invariant-loop decreases-loop
 same-length-2 c = c.before.before.before.before.before.before.before.loop.invariant.same
@@ -68,13 +68,13 @@ returns-2 : tie.Need-returns-2 invariant-loop decreases-loop
 returns-2 c =
     let l = c.before.before.before.before.before.before.before.loop.invariant in
     let none = sym c.before.before.before.before.byte-for.ensures ∙ c.before.before.if2.false in
-    coding-answer l (coding-end l (coding-stop l c.before.before.before.before.before.before.loop-test.true none (rw c.before.is-first.ensures at c.if3.false)))
+    coding_answer l (coding_end l (coding_stop l c.before.before.before.before.before.before.loop-test.true none (rw c.before.is-first.ensures at c.if3.false)))
 
 same-length-3 : tie.Need-same-length-3 invariant-loop decreases-loop
 same-length-3 c = c.before.loop.invariant.same
 
 returns-3 : tie.Need-returns-3 invariant-loop decreases-loop
-returns-3 c = coding-answer c.before.loop.invariant (coding-end c.before.loop.invariant (code_end _ _ _ c.loop-test.false))
+returns-3 c = coding_answer c.before.loop.invariant (coding_end c.before.loop.invariant (code_end _ _ _ c.loop-test.false))
 
 pub from-utf8-spec : {M : Type 1} → statement M
 from-utf8-spec =

@@ -5,7 +5,7 @@ use borrow.Author.Rules.{rules}
 use lib.ListN.{length}
 use mathlib.Core.Path.{sym, ◌∙◌}
 use borrow.Author.Tests.{not_true, not_false}
-use Rattle.letters.proofs.Spelt.{Spelling, spelling_start, spelling-next, spelling-end, spelling-full, at_end, without, was-put}
+use Rattle.letters.proofs.Spelt.{Spelling, spelling_start, spelling_next, spelling_end, spelling_full, at_end, without, was_put}
 use Rattle.ground.proofs.Puts.{put_there}
 use Rattle.letters_spelled.proofs.to_utf8.Statement.{statement}
 use Rattle.letters_spelled.proofs.to_utf8.Tie as tie
@@ -31,7 +31,7 @@ same_length c = c.before.before.before.before.loop.invariant.same
 returns : tie.Need-returns invariant-loop decreases-loop
 returns c =
     let l = c.before.before.before.before.loop.invariant in
-    spelling-end l (without l c.before.before.before.loop-test.true (sym c.before.has-letter.ensures ∙ not_true _ c.if1.true))
+    spelling_end l (without l c.before.before.before.loop-test.true (sym c.before.has-letter.ensures ∙ not_true _ c.if1.true))
 
 put-letter-requires : tie.Need-put-letter-requires invariant-loop decreases-loop
 put-letter-requires c κs = search rules
@@ -45,7 +45,7 @@ returns-2 c =
     let more = c.before.before.before.before.before.before.before.before.loop-test.true in
     let put = c.before.before.before.put-letter.ensures in
     let has = sym c.before.before.before.before.before.before.has-letter.ensures ∙ not_false _ c.before.before.before.before.before.if1.false in
-    spelling-full l more has put.0 put.1 c.if2.true
+    spelling_full l more has put.0 put.1 c.if2.true
 
 add-taken : tie.Need-overflow-add-taken invariant-loop decreases-loop
 add-taken c = omega arith
@@ -59,14 +59,14 @@ loop-again c =
     let more = c.before.before.before.before.before.before.before.before.loop-test.true in
     let put = c.before.before.before.put-letter.ensures in
     let has = sym c.before.before.before.before.before.before.has-letter.ensures ∙ not_false _ c.before.before.before.before.before.if1.false in
-    let fits = was-put _ _ _ put.0 c.if2.false in
-    spelling-next l more has fits (put_there put.0 put.1 fits)
+    let fits = was_put _ _ _ put.0 c.if2.false in
+    spelling_next l more has fits (put_there put.0 put.1 fits)
 
 same-length-3 : tie.Need-same-length-3 invariant-loop decreases-loop
 same-length-3 c = c.before.loop.invariant.same
 
 returns-3 : tie.Need-returns-3 invariant-loop decreases-loop
-returns-3 c = spelling-end c.before.loop.invariant (at_end c.before.loop.invariant c.loop-test.false)
+returns-3 c = spelling_end c.before.loop.invariant (at_end c.before.loop.invariant c.loop-test.false)
 
 pub to-utf8-spec : {M : Type 1} → statement M
 to-utf8-spec =

@@ -4,7 +4,7 @@ use native.Mathlib.Omega.{arith}
 use mathlib.Core.Path.{◌≡◌, refl, sym, ◌∙◌}
 use lib.ListN.{length, get_or, drop}
 use Rattle.card_lines.specs.Lines.{other, before}
-use Rattle.ground.proofs.Lists.{leading-pass, leading-stop}
+use Rattle.ground.proofs.Lists.{leading_pass, leading_stop}
 use Rattle.card_lines.proofs.Splits.{leading_past, is_other, is_byte}
 use Rattle.line_ends.proofs.find.Statement.{statement}
 use Rattle.line_ends.proofs.find.Tie as tie
@@ -25,7 +25,7 @@ returns : tie.Need-returns invariant-loop decreases-loop
 returns c =
     let l = c.before.before.before.loop in
     let a = c.before.before.before.before.args in (
-      sym (leading-stop (other a.byte) 0 a.text.now l.end (omega arith) (is_byte a.byte (get_or a.text.now l.end 0) c.if1.true)) ∙ l.invariant.2,
+      sym (leading_stop (other a.byte) 0 a.text.now l.end (omega arith) (is_byte a.byte (get_or a.text.now l.end 0) c.if1.true)) ∙ l.invariant.2,
       (l.invariant.0, l.invariant.1),
     )
 
@@ -41,7 +41,7 @@ loop-again c =
     let a = c.before.before.before.before.args in (
       omega arith,
       (λ h. omega arith),
-      sym (leading-pass (other a.byte) 0 a.text.now l.end (omega arith) (is_other a.byte (get_or a.text.now l.end 0) c.if1.false)) ∙ l.invariant.2,
+      sym (leading_pass (other a.byte) 0 a.text.now l.end (omega arith) (is_other a.byte (get_or a.text.now l.end 0) c.if1.false)) ∙ l.invariant.2,
     )
 
 returns-2 : tie.Need-returns-2 invariant-loop decreases-loop

@@ -6,7 +6,7 @@ use mathlib.Core.Path.{◌≡◌, refl, ◌∙◌}
 use mathlib.Core.List.{[]}
 use lib.ListN.{length, get_or, drop}
 use Rattle.card_lines.specs.Lines.{lines}
-use Rattle.card_lines.proofs.Listings.{line-here, line-farther, no_line, from_start, put_same, put_nothing}
+use Rattle.card_lines.proofs.Listings.{line_here, line_farther, no_line, from_start, put_same, put_nothing}
 use Rattle.line_names.proofs.put_line.Statement.{statement}
 use Rattle.line_names.proofs.put_line.Tie as tie
 
@@ -42,7 +42,7 @@ returns c =
     let f = c.before.before.before.before.before.before in
     let l = f.before.before.loop in
     let a = f.before.before.before.before.before.args in
-    put_same a.place l.invariant.1 (line-here a.list.now l.at f.find.result l.i a.number (omega arith) f.find.ensures.0 c.before.before.before.before.before.if1.true ∙ l.invariant.5) c.before.before.put.ensures.0 c.before.before.put.ensures.1
+    put_same a.place l.invariant.1 (line_here a.list.now l.at f.find.result l.i a.number (omega arith) f.find.ensures.0 c.before.before.before.before.before.if1.true ∙ l.invariant.5) c.before.before.put.ensures.0 c.before.before.put.ensures.1
 
 add_at : tie.Need-overflow-add-at invariant-loop decreases-loop
 add_at c = omega (arith, c.before.find.ensures.1.1 (omega arith))
@@ -63,7 +63,7 @@ loop-again c =
       omega arith,
       omega (arith, f.find.ensures.1.1 (omega arith)),
       omega arith,
-      line-farther a.list.now l.at f.find.result l.i a.number (omega arith) f.find.ensures.0 (omega arith) ∙ l.invariant.5,
+      line_farther a.list.now l.at f.find.result l.i a.number (omega arith) f.find.ensures.0 (omega arith) ∙ l.invariant.5,
     )
 
 same-length-2 : tie.Need-same-length-2 invariant-loop decreases-loop

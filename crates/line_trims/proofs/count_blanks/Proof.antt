@@ -7,7 +7,7 @@ use mathlib.Core.Path.{◌≡◌, sym, ◌∙◌}
 use lib.Dec.{eqb}
 use lib.ListN.{length, get_or, drop}
 use Rattle.ground.specs.Lists.{leading}
-use Rattle.ground.proofs.Lists.{leading-pass, leading-stop}
+use Rattle.ground.proofs.Lists.{leading_pass, leading_stop}
 use Rattle.card_lines.proofs.Splits.{leading_past}
 use Rattle.line_trims.proofs.count_blanks.Statement.{statement}
 use Rattle.line_trims.proofs.count_blanks.Tie as tie
@@ -28,7 +28,7 @@ returns : tie.Need-returns invariant-loop decreases-loop
 returns c =
     let l = c.before.before.before.loop in
     let a = c.before.before.before.before.args in
-    sym (leading-stop (eqb 0x20) 0 a.line.now l.i (omega arith) (ne_eqb 0x20 (get_or a.line.now l.i 0) c.if1.true)) ∙ l.invariant.1
+    sym (leading_stop (eqb 0x20) 0 a.line.now l.i (omega arith) (ne_eqb 0x20 (get_or a.line.now l.i 0) c.if1.true)) ∙ l.invariant.1
 
 add-i : tie.Need-overflow-add-i invariant-loop decreases-loop
 add-i c = omega arith
@@ -40,7 +40,7 @@ loop-again : tie.Need-loop-preserved invariant-loop decreases-loop
 loop-again c =
     let l = c.before.before.before.loop in
     let a = c.before.before.before.before.args in
-    (omega arith, sym (leading-pass (eqb 0x20) 0 a.line.now l.i (omega arith) (eq-eqb 0x20 (get_or a.line.now l.i 0) c.if1.false)) ∙ l.invariant.1)
+    (omega arith, sym (leading_pass (eqb 0x20) 0 a.line.now l.i (omega arith) (eq-eqb 0x20 (get_or a.line.now l.i 0) c.if1.false)) ∙ l.invariant.1)
 
 returns-2 : tie.Need-returns-2 invariant-loop decreases-loop
 returns-2 c =

@@ -4,7 +4,7 @@ use mathlib.Core.Path.{ap, ◌∙◌}
 use Rattle.card_lines.specs.Lines.{without_blanks}
 use lib.Dec.{eqb}
 use Rattle.ground.proofs.Lists.{leading_most}
-use Rattle.card_lines.proofs.Cuts.{blanks-off}
+use Rattle.card_lines.proofs.Cuts.{blanks_off}
 use borrow.Author.Rules.{rules}
 use Rattle.line_trims.proofs.trimmed.Statement.{statement}
 use Rattle.line_trims.proofs.trimmed.Tie as tie
@@ -25,7 +25,7 @@ part-result-end : tie.Need-slice-bounds-result-end
 part-result-end c = search rules
 
 returns : tie.Need-returns
-returns c = blanks-off _ _ c.before.count-blanks.ensures ∙ ap without_blanks c.before.before.without-return.ensures
+returns c = blanks_off _ _ c.before.count-blanks.ensures ∙ ap without_blanks c.before.before.without-return.ensures
 
 pub trimmed-spec : {M : Type 1} → statement M
 trimmed-spec =

@@ -1,11 +1,11 @@
 -- `line_trims::without_return`: nothing, a carriage return, or another byte at the end. Assumes nothing.
-use Rattle.card_lines.proofs.Cuts.{return-none, return-last, return-other}
+use Rattle.card_lines.proofs.Cuts.{return_none, return_last, return_other}
 use borrow.Author.Rules.{rules}
 use Rattle.line_trims.proofs.without_return.Statement.{statement}
 use Rattle.line_trims.proofs.without_return.Tie as tie
 
 returns : tie.Need-returns
-returns c = return-none _ c.if1.true
+returns c = return_none _ c.if1.true
 
 sub-if2 : tie.Need-overflow-sub-if2
 sub-if2 c = search rules
@@ -26,10 +26,10 @@ part-result-end : tie.Need-slice-bounds-result-end
 part-result-end c = search rules
 
 returns-2 : tie.Need-returns-2
-returns-2 c = return-last _ c.before.if2.true
+returns-2 c = return_last _ c.before.if2.true
 
 returns-3 : tie.Need-returns-3
-returns-3 c = return-other _ c.if2.false
+returns-3 c = return_other _ c.if2.false
 
 pub without-return-spec : {M : Type 1} → statement M
 without-return-spec =

@@ -1,5 +1,5 @@
 -- `line_values::behind_blank`: nothing, a blank, or another byte at the head. Assumes nothing.
-use Rattle.card_lines.proofs.Cuts.{blank_none, blank-first, blank-other}
+use Rattle.card_lines.proofs.Cuts.{blank_none, blank_first, blank_other}
 use borrow.Author.Rules.{rules}
 use Rattle.line_values.proofs.behind_blank.Statement.{statement}
 use Rattle.line_values.proofs.behind_blank.Tie as tie
@@ -20,10 +20,10 @@ part-result-end : tie.Need-slice-bounds-result-end
 part-result-end c = search rules
 
 returns-2 : tie.Need-returns-2
-returns-2 c = blank-first _ c.before.if2.true
+returns-2 c = blank_first _ c.before.if2.true
 
 returns-3 : tie.Need-returns-3
-returns-3 c = blank-other _ c.if2.false
+returns-3 c = blank_other _ c.if2.false
 
 pub behind-blank-spec : {M : Type 1} → statement M
 behind-blank-spec =

@@ -6,7 +6,7 @@ use mathlib.Core.Path.{◌≡◌, sym, ◌∙◌}
 use lib.ListN.{length, drop}
 use Rattle.card_lines.specs.Lines.{lines}
 use Rattle.card_lines.specs.Keys.{place_of}
-use Rattle.card_lines.proofs.Listings.{place_here, place-farther, place_over}
+use Rattle.card_lines.proofs.Listings.{place_here, place_farther, place_over}
 use Rattle.named_keys.proofs.line_with.Statement.{statement}
 use Rattle.named_keys.proofs.line_with.Tie as tie
 
@@ -57,7 +57,7 @@ loop-again c =
     let a = f.before.before.before.before.before.args in (
       omega arith,
       omega (arith, f.find.ensures.1.1 (omega arith)),
-      place-farther a.list.now a.name.now l.at f.find.result l.i (omega arith) f.find.ensures.0 (sym c.before.is_same.ensures ∙ c.if1.false) ∙ l.invariant.2,
+      place_farther a.list.now a.name.now l.at f.find.result l.i (omega arith) f.find.ensures.0 (sym c.before.is_same.ensures ∙ c.if1.false) ∙ l.invariant.2,
     )
 
 returns-2 : tie.Need-returns-2 invariant-loop decreases-loop

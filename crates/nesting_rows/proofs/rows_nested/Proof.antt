@@ -7,7 +7,7 @@ use borrow.Author.Rules.{rules}
 use borrow.Author.Tests.{ne_eqb, eq-eqb}
 use lib.ListN.{length, drop}
 use Rattle.nesting.specs.Decision.{told, nesting_from}
-use Rattle.nesting.proofs.Steps.{rows_pass, rows-stop, rows_end}
+use Rattle.nesting.proofs.Steps.{rows_pass, rows_stop, rows_end}
 use Rattle.nesting_rows.proofs.rows_nested.Statement.{statement}
 use Rattle.nesting_rows.proofs.rows_nested.Tie as tie
 
@@ -38,7 +38,7 @@ clause-of-requires c κs = search rules
 returns : tie.Need-returns invariant-loop decreases-loop
 returns c =
     let h = c.before.before.before.before.before.loop in
-    rows-stop _ _ h.k (omega (arith, h.invariant.1)) (omega (arith, h.invariant.2)) c.before.clause-of.result c.before.clause-of.ensures (ne_eqb _ _ c.if1.true)
+    rows_stop _ _ h.k (omega (arith, h.invariant.1)) (omega (arith, h.invariant.2)) c.before.clause-of.result c.before.clause-of.ensures (ne_eqb _ _ c.if1.true)
     ∙ h.invariant.3
 
 add-k : tie.Need-overflow-add-k invariant-loop decreases-loop

@@ -9,7 +9,7 @@ use lib.ListN.{length, get_or, length-map, length-set, get_or-map}
 use lib.Seq.{ext_get_or}
 use Rattle.card.specs.Content.{value_of, content_of, object_of, record_of, empty_record}
 use Rattle.wire_records.specs.Records.{lent_record}
-use Rattle.wire_records.proofs.Parts.{lent-count}
+use Rattle.wire_records.proofs.Parts.{lent_count}
 use Rattle.ground.proofs.Stores.{filled_more}
 use Rattle.object_sizes.proofs.Lent.{lent_length}
 use Rattle.object_sizes.proofs.lengths_of.Statement.{statement}
@@ -63,7 +63,7 @@ returns-2 c =
     let bs = s.before.args.bytes.now in
     let all : l.i ≡ 16 = omega arith in
     let vs = map value_of (lent_record bs).objects in
-    let many : length vs ≡ 16 = length-map (lent_record bs).objects value_of ∙ lent-count bs s.if1.false in
+    let many : length vs ≡ 16 = length-map (lent_record bs).objects value_of ∙ lent_count bs s.if1.false in
     ext_get_or 0 l.lengths (map length vs) (l.invariant.1 ∙ sym (length-map vs length ∙ many))
     (λ k h. l.invariant.2 k (omega (arith, l.invariant.1)) ∙ sym (get_or-map length vs k []))
 

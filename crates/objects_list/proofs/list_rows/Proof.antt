@@ -11,7 +11,7 @@ use Rattle.edition.specs.Rows.{tags, no_row}
 use Rattle.card.specs.Walk.{look, there}
 use Rattle.objects.specs.Objects.{entry_at}
 use Rattle.objects.proofs.Finds.{part_left, met_by, met_absent, met_wrong, Lies, met_there}
-use Rattle.objects.proofs.Steps.{Sofar, sofar_none, next-absent, next-there, next_last, table_is, table_wrong}
+use Rattle.objects.proofs.Steps.{Sofar, sofar_none, next_absent, next_there, next_last, table_is, table_wrong}
 use Rattle.objects_list.proofs.list_rows.Statement.{statement}
 use Rattle.objects_list.proofs.list_rows.Tie as tie
 
@@ -94,7 +94,7 @@ loop-again c =
     let l = h.loop in
     let met = sym (c.before.before.meet-row.ensures ∙ met_by _ _ _ _ _ h.before.before.before.requires.2) ∙ c.enum_told.given.1 in
     let seen = met_absent (a.from + l.i) _ (rw (part_left l.i a.template.now) at met) in
-    (omega arith, l.invariant.1, l.invariant.2, l.invariant.3, rw add-one (next-absent a.template.now a.t2 a.from l.k l.i l.starts l.lengths (seventeen h.before.before.before) (omega arith) l.invariant.4 seen))
+    (omega arith, l.invariant.1, l.invariant.2, l.invariant.3, rw add-one (next_absent a.template.now a.t2 a.from l.k l.i l.starts l.lengths (seventeen h.before.before.before) (omega arith) l.invariant.4 seen))
 
 enum-known-start : tie.Need-enum-known-start invariant-loop decreases-loop
 enum-known-start c = search rules
@@ -155,7 +155,7 @@ loop-again-2 c =
       length-set l.starts l.k _ ∙ l.invariant.2,
       length-set l.lengths l.k _ ∙ l.invariant.3,
       rw add-one
-          (next-there a.template.now a.t2 a.from l.k l.i l.starts l.lengths (seventeen h.before.before.before) (omega arith) l.invariant.4 t.v n (l.i + 2 + n)
+          (next_there a.template.now a.t2 a.from l.k l.i l.starts l.lengths (seventeen h.before.before.before) (omega arith) l.invariant.4 t.v n (l.i + 2 + n)
           t.long t.some refl (onward-is d) g.0 c.if1.true l.invariant.2 l.invariant.3 w.1),
     )
 

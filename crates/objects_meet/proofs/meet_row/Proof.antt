@@ -6,7 +6,7 @@ use lib.ListN.{length, drop}
 use Rattle.edition.specs.Rows.{tags}
 use Rattle.objects.specs.declared.Met.TheVariants.{Wrong}
 use Rattle.objects.specs.Objects.{here}
-use Rattle.objects.proofs.Finds.{here_some, part_left, answer-is, stands, took, told-off, meets-there, meets-wrong, meets-absent, meets-missing}
+use Rattle.objects.proofs.Finds.{here_some, part_left, answer_is, stands, took, told_off, meets_there, meets_wrong, meets_absent, meets_missing}
 use borrow.Author.Rules.{rules}
 use Rattle.objects_meet.proofs.meet_row.Statement.{statement}
 use Rattle.objects_meet.proofs.meet_row.Tie as tie
@@ -47,8 +47,8 @@ returns c =
     let a = c.before.before.before.before.before.before.before.before.before.args in
     let l = a.part.now in
     let g = c.before.start.given in
-    let found = answer-is a.kinds.now a.k a.place a.row (drop 1 l) _ _ (part_left 1 l) c.before.before.before.read-object.ensures ∙ g.1 in
-    meets-there a.kinds.now a.k a.place a.row (drop (suc a.k) tags) l _ _ (tagged c.before.before.before.before.before)
+    let found = answer_is a.kinds.now a.k a.place a.row (drop 1 l) _ _ (part_left 1 l) c.before.before.before.read-object.ensures ∙ g.1 in
+    meets_there a.kinds.now a.k a.place a.row (drop (suc a.k) tags) l _ _ (tagged c.before.before.before.before.before)
     (took a.kinds.now a.k a.place a.row (drop 1 l) _ g.0.0 g.0.1.0 g.0.1.1.0 (stands a.kinds.now a.k a.place a.row (drop 1 l)) found)
 
 returns-2 : tie.Need-returns-2
@@ -56,9 +56,9 @@ returns-2 c =
     let a = c.before.before.before.before.before.before.before.before.before.before.args in
     let l = a.part.now in
     let g = c.before.before.number.given in
-    let found = answer-is a.kinds.now a.k a.place a.row (drop 1 l) _ _ (part_left 1 l) c.before.before.before.before.read-object.ensures ∙ g.1 in
-    let off = told-off a.kinds.now a.k a.place a.row (drop 1 l) _ g.0.0 g.0.1.0 g.0.1.1.0 (stands a.kinds.now a.k a.place a.row (drop 1 l)) found in
-    ap Wrong c.refuse.ensures ∙ meets-wrong a.kinds.now a.k a.place a.row (drop (suc a.k) tags) l _ (tagged c.before.before.before.before.before.before) off.0
+    let found = answer_is a.kinds.now a.k a.place a.row (drop 1 l) _ _ (part_left 1 l) c.before.before.before.before.read-object.ensures ∙ g.1 in
+    let off = told_off a.kinds.now a.k a.place a.row (drop 1 l) _ g.0.0 g.0.1.0 g.0.1.1.0 (stands a.kinds.now a.k a.place a.row (drop 1 l)) found in
+    ap Wrong c.refuse.ensures ∙ meets_wrong a.kinds.now a.k a.place a.row (drop (suc a.k) tags) l _ (tagged c.before.before.before.before.before.before) off.0
 
 refuse-missing-requires : tie.Need-refuse-missing-requires
 refuse-missing-requires c κs = search rules
@@ -67,13 +67,13 @@ returns-3 : tie.Need-returns-3
 returns-3 c =
     let a = c.before.before.before.before.before.before.args in
     let out = sym c.before.before.before.is-here.ensures ∙ c.before.before.if1.false in
-    ap Wrong c.refuse-missing.ensures ∙ meets-missing a.kinds.now a.k a.place a.row a.part.now out c.before.if2.true
+    ap Wrong c.refuse-missing.ensures ∙ meets_missing a.kinds.now a.k a.place a.row a.part.now out c.before.if2.true
 
 returns-4 : tie.Need-returns-4
 returns-4 c =
     let a = c.before.before.before.before.before.args in
     let out = sym c.before.before.is-here.ensures ∙ c.before.if1.false in
-    meets-absent a.kinds.now a.k a.place a.row (drop (suc a.k) tags) a.part.now out c.if2.false
+    meets_absent a.kinds.now a.k a.place a.row (drop (suc a.k) tags) a.part.now out c.if2.false
 
 pub meet-row-spec : {M : Type 1} → statement M
 meet-row-spec =

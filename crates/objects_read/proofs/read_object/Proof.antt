@@ -11,7 +11,7 @@ use Rattle.rules.specs.Kinds.{judged_by}
 use Rattle.rules.specs.Values.{ToldVerdict, verdict_told}
 use Rattle.card.specs.Walk.{Seen}
 use Rattle.objects.specs.Objects.{found_told, found_of, valued}
-use Rattle.objects.proofs.Finds.{index_within, found-cut, found-unlisted, found-overlong, found-weighed, weighed-found}
+use Rattle.objects.proofs.Finds.{index_within, found_cut, found_unlisted, found_overlong, found_weighed, weighed_found}
 use borrow.Author.Rules.{rules}
 use Rattle.objects_read.proofs.read_object.Statement.{statement}
 use Rattle.objects_read.proofs.read_object.Tie as tie
@@ -23,7 +23,7 @@ returns : tie.Need-returns
 unfolding found_of
 returns c =
     let a = c.before.before.before.before.args in
-    rw c.tag_of.ensures (ap (λ (x : Seen). found_told (found_of a.k a.place x)) (sym (found-cut a.kinds.now a.k a.place a.row a.part.now c.before.if1.true)))
+    rw c.tag_of.ensures (ap (λ (x : Seen). found_told (found_of a.k a.place x)) (sym (found_cut a.kinds.now a.k a.place a.row a.part.now c.before.if1.true)))
 
 shared-slice-read-n : tie.Need-shared-slice-read-n
 shared-slice-read-n c = search rules
@@ -42,7 +42,7 @@ unfolding found_of
 returns-2 c =
     let a = c.before.before.before.before.before.before.before.args in
     let out = sym c.before.before.permits.ensures ∙ not_true c.before.before.permits.result c.before.if2.true in
-    rw c.tag-of2.ensures (ap (λ (x : Seen). found_told (found_of a.k a.place x)) (sym (found-unlisted a.kinds.now a.k a.place a.row a.part.now (omega arith) out)))
+    rw c.tag-of2.ensures (ap (λ (x : Seen). found_told (found_of a.k a.place x)) (sym (found_unlisted a.kinds.now a.k a.place a.row a.part.now (omega arith) out)))
 
 cast-stop : tie.Need-overflow-cast-stop
 cast-stop c = omega (arith, c.before.before.shared-slice-known3.given 0)
@@ -59,7 +59,7 @@ returns-3 c =
     let a = c.before.before.before.before.before.before.before.before.args in
     let listed = sym c.before.before.before.permits.ensures ∙ not_false c.before.before.before.permits.result c.before.before.if2.false in
     rw c.tag-of3.ensures
-    (ap (λ (x : Seen). found_told (found_of a.k a.place x)) (sym (found-overlong a.kinds.now a.k a.place a.row a.part.now (omega arith) listed (omega arith))))
+    (ap (λ (x : Seen). found_told (found_of a.k a.place x)) (sym (found_overlong a.kinds.now a.k a.place a.row a.part.now (omega arith) listed (omega arith))))
 
 sub-judge-by : tie.Need-overflow-sub-judge-by
 sub-judge-by c = search rules
@@ -103,8 +103,8 @@ returns-4 c =
     weighed
     ∙ ap (λ (v : Verdict). found_told (valued a.k (a.place + 2) n v)) verdict
     ∙ ap (λ (m : ℕ). found_told (valued a.k (a.place + 2) m (judged_by a.kinds.now a.row.rule (take n (drop 1 l))))) (sym long)
-    ∙ ap found_told (sym (weighed-found a.kinds.now a.k a.place a.row (take n (drop 1 l)) (drop n (drop 1 l)) _))
-    ∙ ap (λ (x : Seen). found_told (found_of a.k a.place x)) (sym (found-weighed a.kinds.now a.k a.place a.row l (omega arith) listed (omega arith)))
+    ∙ ap found_told (sym (weighed_found a.kinds.now a.k a.place a.row (take n (drop 1 l)) (drop n (drop 1 l)) _))
+    ∙ ap (λ (x : Seen). found_told (found_of a.k a.place x)) (sym (found_weighed a.kinds.now a.k a.place a.row l (omega arith) listed (omega arith)))
 
 pub read-object-spec : {M : Type 1} → statement M
 read-object-spec =

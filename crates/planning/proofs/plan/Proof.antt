@@ -2,7 +2,7 @@
 use mathlib.Core.Path.{sym, ap, ◌∙◌}
 use Rattle.card.specs.declared.Refusal.{Refusal}
 use Rattle.rewriting.proofs.Refused.{input_in}
-use Rattle.planning.proofs.Passing.{planned-room, planned-refused, planned-done}
+use Rattle.planning.proofs.Passing.{planned_room, planned_refused, planned_done}
 use borrow.Author.Rules.{rules}
 use Rattle.planning.proofs.plan.Statement.{statement}
 use Rattle.planning.proofs.plan.Tie as tie
@@ -13,7 +13,7 @@ new-requires c κs = search rules
 returns : tie.Need-returns
 returns c =
     let a = c.before.before.before.before.before.args in
-    planned-room a.edition a.old.now a.new.now a.room.now c.before.if1.true c.new.result c.new.ensures
+    planned_room a.edition a.old.now a.new.now a.room.now c.before.if1.true c.new.result c.new.ensures
 
 refuse-input-requires : tie.Need-refuse-input-requires
 refuse-input-requires c κs = search rules
@@ -22,7 +22,7 @@ returns-2 : tie.Need-returns-2
 returns-2 c =
     let a = c.before.before.before.before.before.before.before.args in
     let r = c.before.before.refuse-input in
-    planned-refused a.edition a.old.now a.new.now a.room.now c.before.before.before.if1.false r.result r.ensures c.if2.true
+    planned_refused a.edition a.old.now a.new.now a.room.now c.before.before.before.if1.false r.result r.ensures c.if2.true
 
 none-requires : tie.Need-none-requires
 none-requires c κs = search rules
@@ -42,7 +42,7 @@ returns-3 c =
     let a = c.before.before.before.before.before.before.before.before.before.before.before.before.args in
     let r = c.before.before.before.before.before.before.before.refuse-input in
     let p = c.before.before.put-plan in
-    planned-done a.edition a.old.now a.new.now a.room.now c.before.before.before.before.before.before.before.before.if1.false r.result r.ensures c.before.before.before.before.before.if2.false
+    planned_done a.edition a.old.now a.new.now a.room.now c.before.before.before.before.before.before.before.before.if1.false r.result r.ensures c.before.before.before.before.before.if2.false
     c.before.before.before.before.none.result c.before.before.before.before.none.ensures p.result p.new.0 p.ensures
 
 pub plan-spec : {M : Type 1} → statement M

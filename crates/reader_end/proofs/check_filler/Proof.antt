@@ -6,7 +6,7 @@ use borrow.Author.Tests.{ne_eqb, not_true, not_false}
 use lib.ListN.{length, drop, length-drop}
 use Rattle.card.specs.Refusals.{gate}
 use Rattle.frame.specs.Checks.{tail_from}
-use Rattle.frame.proofs.Tails.{tail-counted, tail-most}
+use Rattle.frame.proofs.Tails.{tail_counted, tail_most}
 use Rattle.reader_steps.specs.Steps.{tail_at}
 use borrow.Author.Rules.{rules}
 use Rattle.reader_end.proofs.check_filler.Statement.{statement}
@@ -28,13 +28,13 @@ count-tail-requires c κs = search rules
 counted : (c : tie.After-count-tail) → c.before.before.before.args.end + c.count-tail.result ≡ tail_from c.before.before.before.args.image.now c.before.before.before.args.end
 counted c =
     let f = c.before.before.before.requires in
-    tail-counted _ _ f.0 f.2 c.count-tail.result c.count-tail.ensures
+    tail_counted _ _ f.0 f.2 c.count-tail.result c.count-tail.ensures
 
 add_right : tie.Need-overflow-add-right
 add_right c =
     let a = c.before.before.before.args in
     let f = c.before.before.before.requires in
-    omega (arith, counted c, tail-most a.image.now a.end f.0 f.2)
+    omega (arith, counted c, tail_most a.image.now a.end f.0 f.2)
 
 refuse-tail-requires : tie.Need-refuse-tail-requires
 refuse-tail-requires c κs =

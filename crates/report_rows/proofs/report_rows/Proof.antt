@@ -7,7 +7,7 @@ use borrow.Author.Rules.{rules}
 use borrow.Author.Tests.{ne_eqb, eq-eqb}
 use lib.ListN.{length, drop}
 use Rattle.report.specs.Clauses.{report_from}
-use Rattle.report.proofs.Steps.{rows_pass, rows-stop, rows_end}
+use Rattle.report.proofs.Steps.{rows_pass, rows_stop, rows_end}
 use Rattle.report_rows.proofs.report_rows.Statement.{statement}
 use Rattle.report_rows.proofs.report_rows.Tie as tie
 
@@ -32,7 +32,7 @@ clause-of-requires c κs = search rules
 returns : tie.Need-returns invariant-loop decreases-loop
 returns c =
     let h = c.before.before.before.before.loop in
-    rows-stop _ h.k (omega (arith, h.invariant.1)) c.before.clause-of.result c.before.clause-of.ensures (ne_eqb _ _ c.if1.true) ∙ h.invariant.2
+    rows_stop _ h.k (omega (arith, h.invariant.1)) c.before.clause-of.result c.before.clause-of.ensures (ne_eqb _ _ c.if1.true) ∙ h.invariant.2
 
 add-k : tie.Need-overflow-add-k invariant-loop decreases-loop
 add-k c = search rules

@@ -3,7 +3,7 @@ use mathlib.Core.Path.{sym, ap, ◌∙◌}
 use native.Mathlib.Omega.{arith}
 use Rattle.card.specs.declared.Refusal.{Refusal}
 use Rattle.rewriting.proofs.Refused.{input_in}
-use Rattle.rewriting.proofs.Steps.{checked_refused, checked-many, checked-done}
+use Rattle.rewriting.proofs.Steps.{checked_refused, checked_many, checked_done}
 use borrow.Author.Rules.{rules}
 use Rattle.rewriting.proofs.check_plan.Statement.{statement}
 use Rattle.rewriting.proofs.check_plan.Tie as tie
@@ -24,7 +24,7 @@ returns-2 : tie.Need-returns-2
 returns-2 c =
     let a = c.before.before.before.before.before.before.before.before.args in
     let r = c.before.before.before.before.refuse-input in
-    checked-many a.edition a.old.now a.new.now a.steps.now r.result r.ensures c.before.before.if1.false c.before.if2.true c.new.result c.new.ensures
+    checked_many a.edition a.old.now a.new.now a.steps.now r.result r.ensures c.before.before.if1.false c.before.if2.true c.new.result c.new.ensures
 
 none-requires : tie.Need-none-requires
 none-requires c κs = search rules
@@ -39,7 +39,7 @@ returns-3 : tie.Need-returns-3
 returns-3 c =
     let a = c.before.before.before.before.before.before.before.before.before.args in
     let r = c.before.before.before.before.before.refuse-input in
-    checked-done a.edition a.old.now a.new.now a.steps.now r.result r.ensures c.before.before.before.if1.false (omega (arith, c.before.before.if2.false))
+    checked_done a.edition a.old.now a.new.now a.steps.now r.result r.ensures c.before.before.before.if1.false (omega (arith, c.before.before.if2.false))
     c.before.none.result c.before.none.ensures c.run.result c.run.ensures
 
 pub check-plan-spec : {M : Type 1} → statement M

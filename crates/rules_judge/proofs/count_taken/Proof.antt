@@ -10,7 +10,7 @@ use Rattle.rules_judge.specs.declared.Characters.{Characters}
 use Rattle.rules_judge.specs.Characters.{has_byte}
 use Rattle.ground.specs.Lists.{leading}
 use Rattle.rules.specs.Values.{takes}
-use Rattle.ground.proofs.Lists.{leading-pass, leading-stop, leading_end}
+use Rattle.ground.proofs.Lists.{leading_pass, leading_stop, leading_end}
 use Rattle.rules_judge.proofs.Bits.{leading_bits}
 use Rattle.rules_judge.proofs.count_taken.Statement.{statement}
 use Rattle.rules_judge.proofs.count_taken.Tie as tie
@@ -45,7 +45,7 @@ returns : tie.Need-returns invariant-loop decreases-loop
 returns c =
     let h = c.before.before.before.before in
     let f = has_byte h.before.characters-of.result in
-    sym (leading-stop f 0 h.before.before.before.args.v.now h.loop.i (omega arith) (sym c.before.has.ensures ∙ not_true _ c.if1.true)) ∙ h.loop.invariant.1 ∙ right h.before
+    sym (leading_stop f 0 h.before.before.before.args.v.now h.loop.i (omega arith) (sym c.before.has.ensures ∙ not_true _ c.if1.true)) ∙ h.loop.invariant.1 ∙ right h.before
 
 add-i : tie.Need-overflow-add-i invariant-loop decreases-loop
 add-i c = search rules
@@ -57,7 +57,7 @@ loop-again : tie.Need-loop-preserved invariant-loop decreases-loop
 loop-again c =
     let h = c.before.before.before.before in
     let f = has_byte h.before.characters-of.result in
-    (search rules, sym (leading-pass f 0 h.before.before.before.args.v.now h.loop.i (omega arith) (sym c.before.has.ensures ∙ not_false _ c.if1.false)) ∙ h.loop.invariant.1)
+    (search rules, sym (leading_pass f 0 h.before.before.before.args.v.now h.loop.i (omega arith) (sym c.before.has.ensures ∙ not_false _ c.if1.false)) ∙ h.loop.invariant.1)
 
 returns-2 : tie.Need-returns-2 invariant-loop decreases-loop
 returns-2 c =

@@ -2,7 +2,7 @@
 use Prim.Native.Nat.{◌<◌}
 use mathlib.Core.Path.{sym, ap, ◌∙◌}
 use Rattle.ground.specs.Lists.{same_list}
-use Rattle.table_text.proofs.WordParts.{word-part, word_after, word-within, no_word}
+use Rattle.table_text.proofs.WordParts.{word_part, word_after, word_within, no_word}
 use native.Mathlib.Omega.{arith}
 use borrow.Author.Rules.{rules}
 use Rattle.table_words.proofs.is_word.Statement.{statement}
@@ -33,13 +33,13 @@ is-part-requires : tie.Need-is-part-requires
 is-part-requires c κs =
     let i = c.before.before.before.before.before.args.i in
     let h : i < 29 = omega arith in
-    (omega (arith, word_after i h), omega (arith, word-within i h))
+    (omega (arith, word_after i h), omega (arith, word_within i h))
 
 returns-2 : tie.Need-returns-2
 returns-2 c =
     let i = c.before.before.before.before.before.before.args.i in
     let h : i < 29 = omega arith in
-    rw (c.before.before.before.start_of_lem.ensures, c.before.before.start-of2.ensures, word-part i h) at c.is-part.ensures
+    rw (c.before.before.before.start_of_lem.ensures, c.before.before.start-of2.ensures, word_part i h) at c.is-part.ensures
 
 pub is-word-spec : {M : Type 1} → statement M
 is-word-spec =

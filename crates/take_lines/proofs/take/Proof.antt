@@ -5,7 +5,7 @@ use native.Mathlib.Omega.{arith}
 use lib.ListN.{length, drop}
 use Rattle.table_take.specs.Splitting.{lines}
 use Rattle.table_take.specs.Taking.{taking, no_rows, taken_from, taken}
-use Rattle.table_take.proofs.Turns.{line-turn, lines_over}
+use Rattle.table_take.proofs.Turns.{line_turn, lines_over}
 use Rattle.take_lines.proofs.take.Statement.{statement}
 use Rattle.take_lines.proofs.take.Tie as tie
 
@@ -47,7 +47,7 @@ loop-again c =
     let end = c.before.before in
     let at = end.before.before in
     let l = at.loop in
-    (omega arith, omega arith, rw c.with-line.ensures (line-turn l.state l.n at.before.before.args.text.now l.at end.behind.result (omega arith) end.behind.ensures.0 ∙ l.invariant.2))
+    (omega arith, omega arith, rw c.with-line.ensures (line_turn l.state l.n at.before.before.args.text.now l.at end.behind.result (omega arith) end.behind.ensures.0 ∙ l.invariant.2))
 
 finished-requires : tie.Need-finished-requires invariant-loop decreases-loop
 finished-requires c κs = tt

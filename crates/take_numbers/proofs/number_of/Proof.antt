@@ -5,7 +5,7 @@ use native.Mathlib.Omega.{arith}
 use lib.ListN.{length, drop}
 use Rattle.table_take.specs.Splitting.{through}
 use Rattle.table_take.specs.Numbers.{with_byte, number_of}
-use Rattle.table_take.proofs.Splits.{through-next, through-end}
+use Rattle.table_take.proofs.Splits.{through_next, through_end}
 use Rattle.take_numbers.proofs.number_of.Statement.{statement}
 use Rattle.take_numbers.proofs.number_of.Tie as tie
 
@@ -34,13 +34,13 @@ loop-again : tie.Need-loop-preserved invariant-loop decreases-loop
 loop-again c =
     let at = c.before.before.before in
     let l = at.loop in
-    (omega arith, rw c.with_byte.ensures (sym (through-next with_byte 0 at.before.before.args.word.now l.i l.number (omega arith)) ∙ l.invariant.1))
+    (omega arith, rw c.with_byte.ensures (sym (through_next with_byte 0 at.before.before.args.word.now l.i l.number (omega arith)) ∙ l.invariant.1))
 
 returns : tie.Need-returns invariant-loop decreases-loop
 unfolding number_of
 returns c =
     let l = c.before.loop in
-    sym (through-end with_byte 0 c.before.before.before.args.word.now l.i l.number (omega arith)) ∙ l.invariant.1
+    sym (through_end with_byte 0 c.before.before.before.args.word.now l.i l.number (omega arith)) ∙ l.invariant.1
 
 pub number-of-spec : {M : Type 1} → statement M
 number-of-spec =

@@ -5,7 +5,7 @@ use native.Mathlib.Omega.{arith}
 use lib.ListN.{length, drop}
 use Rattle.table_take.specs.Splitting.{through}
 use Rattle.table_take.specs.LengthSets.{nothing_listed, with_sign, lengths_of}
-use Rattle.table_take.proofs.Splits.{through-next, through-end}
+use Rattle.table_take.proofs.Splits.{through_next, through_end}
 use Rattle.take_sets.proofs.lengths_of.Statement.{statement}
 use Rattle.take_sets.proofs.lengths_of.Tie as tie
 
@@ -41,7 +41,7 @@ loop-again : tie.Need-loop-preserved invariant-loop decreases-loop
 loop-again c =
     let at = c.before.before.before in
     let l = at.loop in
-    (omega arith, rw c.with-sign.ensures (sym (through-next with_sign 0 at.before.before.before.before.args.word.now l.i l.item (omega arith)) ∙ l.invariant.1))
+    (omega arith, rw c.with-sign.ensures (sym (through_next with_sign 0 at.before.before.before.before.args.word.now l.i l.item (omega arith)) ∙ l.invariant.1))
 
 closed-requires : tie.Need-closed-requires invariant-loop decreases-loop
 closed-requires c κs = tt
@@ -51,7 +51,7 @@ unfolding lengths_of
 returns-2 c =
     let at = c.before.before in
     let l = at.loop in
-    rw (sym at.before.before.is_IsWord.ensures ∙ at.before.if1.false, ← l.invariant.1, through-end with_sign 0 at.before.before.before.before.args.word.now l.i l.item (omega arith)) c.closed.ensures
+    rw (sym at.before.before.is_IsWord.ensures ∙ at.before.if1.false, ← l.invariant.1, through_end with_sign 0 at.before.before.before.before.args.word.now l.i l.item (omega arith)) c.closed.ensures
 
 pub lengths-of-spec : {M : Type 1} → statement M
 lengths-of-spec =

@@ -3,7 +3,7 @@ use mathlib.Core.Path.{◌≡◌, refl, sym, ◌∙◌}
 use Prim.Native.Nat.{◌+◌, ◌-◌}
 use native.Mathlib.Omega.{arith}
 use Rattle.table_take.specs.LengthSets.{with_range}
-use Rattle.table_take.proofs.Ranges.{range-next, range-end}
+use Rattle.table_take.proofs.Ranges.{range_next, range_end}
 use Rattle.take_sets.proofs.with_range.Statement.{statement}
 use Rattle.take_sets.proofs.with_range.Tie as tie
 
@@ -29,10 +29,10 @@ loop-less : tie.Need-loop-smaller invariant-loop decreases-loop
 loop-less c = omega arith
 
 loop-again : tie.Need-loop-preserved invariant-loop decreases-loop
-loop-again c = range-next c.before.loop.all c.before.loop.n c.before.before.args.last (omega arith) (omega arith) ∙ c.before.loop.invariant
+loop-again c = range_next c.before.loop.all c.before.loop.n c.before.before.args.last (omega arith) (omega arith) ∙ c.before.loop.invariant
 
 returns : tie.Need-returns invariant-loop decreases-loop
-returns c = sym (range-end c.before.loop.all c.before.loop.n c.before.before.args.last (omega arith)) ∙ c.before.loop.invariant
+returns c = sym (range_end c.before.loop.all c.before.loop.n c.before.before.args.last (omega arith)) ∙ c.before.loop.invariant
 
 pub with-range-spec : {M : Type 1} → statement M
 with-range-spec =

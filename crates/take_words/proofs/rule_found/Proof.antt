@@ -3,7 +3,7 @@ use mathlib.Core.Path.{◌≡◌, refl, sym, ◌∙◌}
 use Prim.Native.Nat.{◌-◌, ◌≤◌}
 use native.Mathlib.Omega.{arith}
 use Rattle.table_take.specs.Words.{rule_found}
-use Rattle.table_take.proofs.Ranges.{found-stop, found-next, found-end}
+use Rattle.table_take.proofs.Ranges.{found_stop, found_next, found_end}
 use Rattle.take_words.proofs.rule_found.Statement.{statement}
 use Rattle.take_words.proofs.rule_found.Tie as tie
 
@@ -25,7 +25,7 @@ is-word-requires c κs = tt
 returns : tie.Need-returns invariant-loop decreases-loop
 returns c =
     let at = c.before.before.before in
-    (sym (found-stop at.before.before.args.word.now at.loop.n (omega arith) (sym c.before.is_IsWord.ensures ∙ c.if1.true)) ∙ at.loop.invariant.2, omega arith)
+    (sym (found_stop at.before.before.args.word.now at.loop.n (omega arith) (sym c.before.is_IsWord.ensures ∙ c.if1.true)) ∙ at.loop.invariant.2, omega arith)
 
 add-n : tie.Need-overflow-add-n invariant-loop decreases-loop
 add-n c = omega arith
@@ -36,12 +36,12 @@ loop-less c = omega arith
 loop-again : tie.Need-loop-preserved invariant-loop decreases-loop
 loop-again c =
     let at = c.before.before.before in
-    (omega arith, omega arith, sym (found-next at.before.before.args.word.now at.loop.n (omega arith) (sym c.before.is_IsWord.ensures ∙ c.if1.false)) ∙ at.loop.invariant.2)
+    (omega arith, omega arith, sym (found_next at.before.before.args.word.now at.loop.n (omega arith) (sym c.before.is_IsWord.ensures ∙ c.if1.false)) ∙ at.loop.invariant.2)
 
 returns-2 : tie.Need-returns-2 invariant-loop decreases-loop
 returns-2 c =
     let at = c.before in
-    (sym (found-end at.before.before.args.word.now at.loop.n (omega arith)) ∙ at.loop.invariant.2, omega arith)
+    (sym (found_end at.before.before.args.word.now at.loop.n (omega arith)) ∙ at.loop.invariant.2, omega arith)
 
 pub rule-found-spec : {M : Type 1} → statement M
 rule-found-spec =

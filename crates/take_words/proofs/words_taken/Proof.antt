@@ -6,7 +6,7 @@ use native.Mathlib.Omega.{arith}
 use lib.ListN.{length, drop}
 use Rattle.table_take.specs.Splitting.{words, through}
 use Rattle.table_take.specs.Words.{no_fields, word_taken, words_taken}
-use Rattle.table_take.proofs.Turns.{word-turn, no-word-turn, words-over}
+use Rattle.table_take.proofs.Turns.{word_turn, no_word_turn, words_over}
 use Rattle.take_words.proofs.words_taken.Statement.{statement}
 use Rattle.take_words.proofs.words_taken.Tie as tie
 
@@ -51,8 +51,8 @@ loop-again c =
     let s = c.before.before.behind in
     let e = c.before.behind2 in
     ⊎_elim
-    (λ w. rw (w.3, w.2.ensures) (word-turn (word_taken a.due) l.got a.line.now l.at s.result e.result s.ensures.0 e.ensures.0 (omega arith) ∙ l.invariant))
-    (λ w. rw w.1 (no-word-turn (word_taken a.due) l.got a.line.now l.at s.result e.result s.ensures.0 e.ensures.0 (omega arith) ∙ l.invariant))
+    (λ w. rw (w.3, w.2.ensures) (word_turn (word_taken a.due) l.got a.line.now l.at s.result e.result s.ensures.0 e.ensures.0 (omega arith) ∙ l.invariant))
+    (λ w. rw w.1 (no_word_turn (word_taken a.due) l.got a.line.now l.at s.result e.result s.ensures.0 e.ensures.0 (omega arith) ∙ l.invariant))
     c.if1.branch
 
 returns : tie.Need-returns invariant-loop decreases-loop
@@ -60,7 +60,7 @@ unfolding words_taken
 returns c =
     let l = c.before.loop in
     let a = c.before.before.before.args in
-    sym (words-over (word_taken a.due) l.got a.line.now l.at (omega arith)) ∙ l.invariant
+    sym (words_over (word_taken a.due) l.got a.line.now l.at (omega arith)) ∙ l.invariant
 
 pub words-taken-spec : {M : Type 1} → statement M
 words-taken-spec =

@@ -5,7 +5,7 @@ use mathlib.Core.Path.{◌≡◌, refl, ◌∙◌}
 use lib.ListN.{length, drop}
 use Rattle.card_lines.specs.Lines.{lines}
 use Rattle.card_text.specs.Faults.{fault_from}
-use Rattle.card_text.proofs.Passing.{fault-here, fault-farther, fault-over}
+use Rattle.card_text.proofs.Passing.{fault_here, fault_farther, fault_over}
 use Rattle.text_checks.proofs.check.Statement.{statement}
 use Rattle.text_checks.proofs.check.Tie as tie
 
@@ -50,7 +50,7 @@ returns c =
     let f = c.before.before.before.before.before in
     let l = f.before.before.loop in
     let a = f.before.before.before.before.args in
-    c.fault-at.ensures ∙ fault-here a.text.now l.at f.feed-from.result l.line (omega arith) f.feed-from.ensures.0 _ c.before.before.before.fault-of-line.ensures c.before.before.if1.true ∙ l.invariant.2
+    c.fault-at.ensures ∙ fault_here a.text.now l.at f.feed-from.result l.line (omega arith) f.feed-from.ensures.0 _ c.before.before.before.fault-of-line.ensures c.before.before.if1.true ∙ l.invariant.2
 
 add_at : tie.Need-overflow-add-at invariant-loop decreases-loop
 add_at c = omega (arith, c.before.before.before.feed-from.ensures.1.1 (omega arith))
@@ -68,13 +68,13 @@ loop-again c =
     let a = f.before.before.before.before.args in (
       omega arith,
       omega (arith, f.feed-from.ensures.1.1 (omega arith)),
-      fault-farther a.text.now l.at f.feed-from.result l.line (omega arith) f.feed-from.ensures.0 _ c.before.fault-of-line.ensures c.if1.false ∙ l.invariant.2,
+      fault_farther a.text.now l.at f.feed-from.result l.line (omega arith) f.feed-from.ensures.0 _ c.before.fault-of-line.ensures c.if1.false ∙ l.invariant.2,
     )
 
 returns-2 : tie.Need-returns-2 invariant-loop decreases-loop
 returns-2 c =
     let l = c.before.loop in
-    fault-over c.before.before.before.args.text.now l.at l.line (omega arith) ∙ l.invariant.2
+    fault_over c.before.before.before.args.text.now l.at l.line (omega arith) ∙ l.invariant.2
 
 pub check-spec : {M : Type 1} → statement M
 check-spec =

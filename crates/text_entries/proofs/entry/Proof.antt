@@ -5,7 +5,7 @@ use mathlib.Core.Path.{◌≡◌, refl, ◌∙◌}
 use lib.ListN.{length, drop}
 use Rattle.card_lines.specs.Lines.{lines}
 use Rattle.card_text.specs.Entries.{line_from, line_with}
-use Rattle.card_text.proofs.Passing.{number-here, number-farther, number-over, line-here, line-farther, line-over, part-whole, part_empty}
+use Rattle.card_text.proofs.Passing.{number_here, number_farther, number_over, line_here, line_farther, line_over, part_whole, part_empty}
 use Rattle.text_entries.proofs.entry.Statement.{statement}
 use Rattle.text_entries.proofs.entry.Tie as tie
 
@@ -39,9 +39,9 @@ returns c =
     let l = f.before.before.loop in
     let a = f.before.before.before.before.args in
     let h : l.at < length a.text.now = omega arith in (
-      number-here a.text.now l.at f.feed-from.result l.line h f.feed-from.ensures.0 a.key _ c.before.key_of.ensures c.if1.true ∙ l.invariant.2,
-      part-whole a.text.now l.at f.feed-from.result l.line h f.feed-from.ensures.0 (omega arith) (f.feed-from.ensures.1.1 (omega arith))
-          ∙ line-here a.text.now l.at f.feed-from.result l.line h f.feed-from.ensures.0 a.key _ c.before.key_of.ensures c.if1.true ∙ l.invariant.3,
+      number_here a.text.now l.at f.feed-from.result l.line h f.feed-from.ensures.0 a.key _ c.before.key_of.ensures c.if1.true ∙ l.invariant.2,
+      part_whole a.text.now l.at f.feed-from.result l.line h f.feed-from.ensures.0 (omega arith) (f.feed-from.ensures.1.1 (omega arith))
+          ∙ line_here a.text.now l.at f.feed-from.result l.line h f.feed-from.ensures.0 a.key _ c.before.key_of.ensures c.if1.true ∙ l.invariant.3,
     )
 
 add_at : tie.Need-overflow-add-at invariant-loop decreases-loop
@@ -61,16 +61,16 @@ loop-again c =
     let h : l.at < length a.text.now = omega arith in (
       omega arith,
       omega (arith, f.feed-from.ensures.1.1 (omega arith)),
-      number-farther a.text.now l.at f.feed-from.result l.line h f.feed-from.ensures.0 a.key _ c.before.key_of.ensures c.if1.false ∙ l.invariant.2,
-      line-farther a.text.now l.at f.feed-from.result l.line h f.feed-from.ensures.0 a.key _ c.before.key_of.ensures c.if1.false ∙ l.invariant.3,
+      number_farther a.text.now l.at f.feed-from.result l.line h f.feed-from.ensures.0 a.key _ c.before.key_of.ensures c.if1.false ∙ l.invariant.2,
+      line_farther a.text.now l.at f.feed-from.result l.line h f.feed-from.ensures.0 a.key _ c.before.key_of.ensures c.if1.false ∙ l.invariant.3,
     )
 
 returns-2 : tie.Need-returns-2 invariant-loop decreases-loop
 returns-2 c =
     let l = c.before.loop in
     let a = c.before.before.before.args in (
-      number-over a.text.now l.at l.line (omega arith) a.key ∙ l.invariant.2,
-      part_empty a.text.now ∙ line-over a.text.now l.at l.line (omega arith) a.key ∙ l.invariant.3,
+      number_over a.text.now l.at l.line (omega arith) a.key ∙ l.invariant.2,
+      part_empty a.text.now ∙ line_over a.text.now l.at l.line (omega arith) a.key ∙ l.invariant.3,
     )
 
 pub entry_spec : {M : Type 1} → statement M

@@ -2,7 +2,7 @@
 use borrow.Author.Rules.{rules}
 use borrow.Author.Tests.{le-ltb}
 use Rattle.card_text.specs.Hex.{byte_at}
-use Rattle.card_text.proofs.Told.{byte-there}
+use Rattle.card_text.proofs.Told.{byte_there}
 use Rattle.text_hex.proofs.byte_at.Statement.{statement}
 use Rattle.text_hex.proofs.byte_at.Tie as tie
 
@@ -38,7 +38,7 @@ add-result : tie.Need-overflow-add-result
 add-result c = search rules
 
 returns-2 : tie.Need-returns-2
-returns-2 c = byte-there _ _ _ _ _ _ c.before.before.before.before.if1.false c.before.before.before.byte-at.ensures c.before.byte-at2.ensures c.before.before.digit_value.ensures.0 c.digit-value2.ensures.0
+returns-2 c = byte_there _ _ _ _ _ _ c.before.before.before.before.if1.false c.before.before.before.byte-at.ensures c.before.byte-at2.ensures c.before.before.digit_value.ensures.0 c.digit-value2.ensures.0
 
 pub byte-at-spec : {M : Type 1} → statement M
 byte-at-spec =

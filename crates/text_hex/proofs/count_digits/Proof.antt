@@ -5,7 +5,7 @@ use native.Mathlib.Omega.{arith}
 use mathlib.Core.Path.{◌≡◌, sym, ◌∙◌}
 use lib.ListN.{length, drop}
 use Rattle.ground.specs.Lists.{leading}
-use Rattle.ground.proofs.Lists.{leading-pass, leading-stop, leading_end}
+use Rattle.ground.proofs.Lists.{leading_pass, leading_stop, leading_end}
 use Rattle.card_text.specs.Hex.{is_digit}
 use Rattle.card_text.proofs.Digits.{is_digit_lem, no_digit}
 use Rattle.text_hex.proofs.count_digits.Statement.{statement}
@@ -30,7 +30,7 @@ returns : tie.Need-returns invariant-loop decreases-loop
 returns c =
     let l = c.before.before.before.before.loop in
     let a = c.before.before.before.before.before.before.args in
-    sym (leading-stop is_digit 0 a.value.now l.i (omega arith) (no_digit _ _ c.before.digit_value.ensures.0 c.if1.true)) ∙ l.invariant.1
+    sym (leading_stop is_digit 0 a.value.now l.i (omega arith) (no_digit _ _ c.before.digit_value.ensures.0 c.if1.true)) ∙ l.invariant.1
 
 add-i : tie.Need-overflow-add-i invariant-loop decreases-loop
 add-i c = omega arith
@@ -42,7 +42,7 @@ loop-again : tie.Need-loop-preserved invariant-loop decreases-loop
 loop-again c =
     let l = c.before.before.before.before.loop in
     let a = c.before.before.before.before.before.before.args in
-    (omega arith, sym (leading-pass is_digit 0 a.value.now l.i (omega arith) (is_digit_lem _ _ c.before.digit_value.ensures.0 c.if1.false)) ∙ l.invariant.1)
+    (omega arith, sym (leading_pass is_digit 0 a.value.now l.i (omega arith) (is_digit_lem _ _ c.before.digit_value.ensures.0 c.if1.false)) ∙ l.invariant.1)
 
 returns-2 : tie.Need-returns-2 invariant-loop decreases-loop
 returns-2 c =

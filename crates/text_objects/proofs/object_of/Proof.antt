@@ -1,6 +1,6 @@
 -- `text_objects::object_of`: the first 28 of the bytes made, and how many were made. Assumes nothing.
 use borrow.Author.Rules.{rules}
-use Rattle.card_text.proofs.Told.{object-told}
+use Rattle.card_text.proofs.Told.{object_told}
 use Rattle.text_objects.proofs.object_of.Statement.{statement}
 use Rattle.text_objects.proofs.object_of.Tie as tie
 
@@ -29,7 +29,7 @@ cast-t15 : tie.Need-overflow-cast-t15
 cast-t15 c = search rules
 
 returns : tie.Need-returns
-returns c = object-told _ _ c.before.before.before.before.before.before.before.from-utf8.ensures.0 _ _ c.before.before.before.before.before.before.before.from-utf8.ensures.1 c.before.before.put.ensures.1
+returns c = object_told _ _ c.before.before.before.before.before.before.before.from-utf8.ensures.0 _ _ c.before.before.before.before.before.before.before.from-utf8.ensures.1 c.before.before.put.ensures.1
 
 pub object-of-spec : {M : Type 1} → statement M
 object-of-spec =

@@ -5,7 +5,7 @@ use mathlib.Core.Path.{◌≡◌, refl, ap, ◌∙◌}
 use lib.ListN.{length, take}
 use lib.ListN.{length-set}
 use Rattle.card_text.specs.Records.{listed, object_said, object_at, objects_said}
-use Rattle.card_text.proofs.Listed.{listed_more, listed-all}
+use Rattle.card_text.proofs.Listed.{listed_more, listed_all}
 use Rattle.text_objects.proofs.objects_of.Statement.{statement}
 use Rattle.text_objects.proofs.objects_of.Tie as tie
 
@@ -48,7 +48,7 @@ unfolding objects_said
 returns c =
     let l = c.before.loop in
     let e : l.i ≡ 16 = omega arith in
-    rw e at (listed-all (object_at c.before.before.before.args.text.now) l.objects l.i l.invariant.2 (omega arith))
+    rw e at (listed_all (object_at c.before.before.before.args.text.now) l.objects l.i l.invariant.2 (omega arith))
 
 pub objects-of-spec : {M : Type 1} → statement M
 objects-of-spec =

@@ -6,7 +6,7 @@ use lib.ListN.{length, take}
 use lib.ListN.{length-set}
 use Rattle.card_text.specs.Records.{listed, free_said}
 use Rattle.card_text.specs.Hex.{byte_at}
-use Rattle.card_text.proofs.Listed.{listed_more, listed-all}
+use Rattle.card_text.proofs.Listed.{listed_more, listed_all}
 use Rattle.text_records.proofs.free_bytes.Statement.{statement}
 use Rattle.text_records.proofs.free_bytes.Tie as tie
 
@@ -43,7 +43,7 @@ unfolding free_said
 returns c =
     let l = c.before.loop in
     let e : l.i ≡ 12 = omega arith in
-    rw e at (listed-all (byte_at c.before.before.before.args.value.now) l.free l.i l.invariant.2 (omega arith))
+    rw e at (listed_all (byte_at c.before.before.before.args.value.now) l.free l.i l.invariant.2 (omega arith))
 
 pub free-bytes-spec : {M : Type 1} → statement M
 free-bytes-spec =

@@ -7,7 +7,7 @@ use lib.ListN.{get_or}
 use Rattle.lengths.specs.Lengths.{length_read, length_told}
 use Rattle.ground.proofs.Runs.{part_to_end}
 use Rattle.tree.specs.Heads.{bad_tag, field_behind}
-use Rattle.tree.proofs.Inside.{head-bad, head-deep, head-field, head_long, head-object, field_behind_lem}
+use Rattle.tree.proofs.Inside.{head_bad, head_deep, head_field, head_long, head_object, field_behind_lem}
 use borrow.Author.Rules.{rules}
 use Rattle.tree_heads.proofs.read_head.Statement.{statement}
 use Rattle.tree_heads.proofs.read_head.Tie as tie
@@ -36,7 +36,7 @@ cast-t11 c = search rules
 returns : tie.Need-returns
 returns c =
     let a = c.before.before.before.before.args in
-    sym (head-bad a.bytes.now a.at (7 - a.left) (sym c.before.is-bad.ensures ∙ c.if1.true))
+    sym (head_bad a.bytes.now a.at (7 - a.left) (sym c.before.is-bad.ensures ∙ c.if1.true))
 
 cast-t13 : tie.Need-overflow-cast-t13
 cast-t13 c = search rules
@@ -44,7 +44,7 @@ cast-t13 c = search rules
 returns-2 : tie.Need-returns-2
 returns-2 c =
     let a = c.before.before.before.before.before.args in
-    sym (head-deep a.bytes.now a.at (7 - a.left) (sym c.before.before.is-bad.ensures ∙ c.before.if1.false) (omega (arith, c.if2.true)))
+    sym (head_deep a.bytes.now a.at (7 - a.left) (sym c.before.before.is-bad.ensures ∙ c.before.if1.false) (omega (arith, c.if2.true)))
 
 sub-read-length : tie.Need-overflow-sub-read-length
 sub-read-length c = search rules
@@ -71,7 +71,7 @@ returns-3 : tie.Need-returns-3
 returns-3 c =
     let t = c.before.before in
     let a = t.before.before.before.before.before.before.before.before.args in
-    sym (head-field a.bytes.now a.at (7 - a.left) (good t) (flat t) (rw (field t) at c.if3.true))
+    sym (head_field a.bytes.now a.at (7 - a.left) (good t) (flat t) (rw (field t) at c.if3.true))
 
 cast-start : tie.Need-overflow-cast-start
 cast-start c = search rules
@@ -102,7 +102,7 @@ returns-5 : tie.Need-returns-5
 returns-5 c =
     let t = c.before.before.before.before.before in
     let a = t.before.before.before.before.before.before.before.before.args in
-    rw (field t) (sym (head-object a.bytes.now a.at (7 - a.left) (good t) (flat t) (rw (field t) at c.before.before.before.if3.false) (rw (field t) at c.if4.false)))
+    rw (field t) (sym (head_object a.bytes.now a.at (7 - a.left) (good t) (flat t) (rw (field t) at c.before.before.before.if3.false) (rw (field t) at c.if4.false)))
 
 pub read-head-spec : {M : Type 1} → statement M
 read-head-spec =

@@ -11,7 +11,7 @@ use Rattle.tree.specs.Heads.{head_at}
 use Rattle.tree.specs.Listing.{Out, entry, listing, object}
 use Rattle.tree.specs.Answers.{Done}
 use Rattle.tree.proofs.Inside.{head_for_lem, inside_head, shallow_head}
-use Rattle.tree.proofs.Steps.{Partly, partly_none, partly_more, partly-stop, partly-end, object-refused, object-plain, object-inner, done_refused, done_plain, done_above, done_above_refused}
+use Rattle.tree.proofs.Steps.{Partly, partly_none, partly_more, partly_stop, partly_end, object_refused, object_plain, object_inner, done_refused, done_plain, done_above, done_above_refused}
 use Prim.Native.Nat.{ℕ, suc, ◌+◌, ◌-◌, ◌*◌, ◌<◌, ◌≤◌}
 use borrow.Fn.Kinds.{In}
 use borrow.Fn.PlainCycle.{Measures, is, falls, and}
@@ -176,7 +176,7 @@ read-list-returns t c =
     let a = c.before.before.before.before.before.before.before.before.before.before.before.before.args in
     let l = c.before.before.before.before.before.before.before.before.before.loop in
     let o = c.before.before.before.before.before.read-object in
-    partly-stop (7 - a.left) a.at a.bytes.now a.k a.room.now l.p l.n l.room l.invariant c.before.before.before.before.before.before.before.before.loop-test.true
+    partly_stop (7 - a.left) a.at a.bytes.now a.k a.room.now l.p l.n l.room l.invariant c.before.before.before.before.before.before.before.before.loop-test.true
     o.result o.new.1.1.1.0 c.before.one2.given.0.0 c.before.one2.given.0.1.0 (rw (part_to_end l.p a.bytes.now) at o.ensures) c.before.one2.given.1
 
 read-list-same-length-2 : (t : ℕ) → read-list-lts.Need-same-length-2 (
@@ -192,7 +192,7 @@ read-list-returns-2 : (t : ℕ) → read-list-lts.Need-returns-2 (
 read-list-returns-2 t c =
     let a = c.before.before.before.before.args in
     let l = c.before.loop in
-    partly-end (7 - a.left) a.at a.bytes.now a.k a.room.now l.p l.n l.room l.invariant c.loop-test.false
+    partly_end (7 - a.left) a.at a.bytes.now a.k a.room.now l.p l.n l.room l.invariant c.loop-test.false
 
 read-object-head-of-requires : (t : ℕ) → read-object-lts.Need-head-of-requires (
   head-of-reads.Asked,
@@ -407,7 +407,7 @@ read-object-returns t c =
     let g = c.before.found.given in
     let pre = c.before.before.before.before.before.before.requires in
     done_refused a.k (object (7 - a.left) a.at a.bytes.now) a.room.now a.room.now g.0.0 g.0.1.0
-    (object-refused (7 - a.left) a.at a.bytes.now g.0.0 g.0.1.0 (sym (c.before.before.before.head_of.ensures ∙ head_for_lem a.bytes.now a.at a.left (omega (arith, pre.1)) (omega (arith, pre.1)) (omega (arith, pre.1))) ∙ g.1))
+    (object_refused (7 - a.left) a.at a.bytes.now g.0.0 g.0.1.0 (sym (c.before.before.before.head_of.ensures ∙ head_for_lem a.bytes.now a.at a.left (omega (arith, pre.1)) (omega (arith, pre.1)) (omega (arith, pre.1))) ∙ g.1))
 
 read-object-same-length : (t : ℕ) → read-object-lts.Need-same-length (
   head-of-reads.Asked,
@@ -437,7 +437,7 @@ read-object-returns-2 t c =
     let f = c.before.before.before.before.before.before.before.before.before.before.before.before.before.before.before in
     let a = f.before.before.before.before.before.args in
     let g = f.found2.given.0 in
-    let o = object-inner (7 - a.left) a.at a.bytes.now g.0 g.1.0 g.1.1.0 (read-object-is t f) (sym c.before.before.before.before.before.before.before.before.before.is-list.ensures ∙ c.before.before.before.before.before.before.before.before.if1.true) in
+    let o = object_inner (7 - a.left) a.at a.bytes.now g.0 g.1.0 g.1.1.0 (read-object-is t f) (sym c.before.before.before.before.before.before.before.before.before.is-list.ensures ∙ c.before.before.before.before.before.before.before.before.if1.true) in
     let i : Out = listing (suc (7 - a.left)) (a.at + g.1.0) (take g.1.1.0 (drop g.1.0 a.bytes.now)) in
     let deeper : 7 - (a.left - 1) ≡ suc (7 - a.left) = omega (arith, (read-object-lies t f).shallow, c.before.before.before.before.before.before.before.before.before.before.before.before.before.before.before.before.before.before.before.before.requires.1) in
     let value : g.1.0 + g.1.1.0 - g.1.0 ≡ g.1.1.0 = add-sub_cancel_left g.1.0 g.1.1.0 in
@@ -474,7 +474,7 @@ read-object-returns-3 t c =
     let f = c.before.before.before.before.before.before.before.before.before.before.before.before.before.before.before in
     let a = f.before.before.before.before.before.args in
     let g = f.found2.given.0 in
-    let o = object-inner (7 - a.left) a.at a.bytes.now g.0 g.1.0 g.1.1.0 (read-object-is t f) (sym c.before.before.before.before.before.before.before.before.before.is-list.ensures ∙ c.before.before.before.before.before.before.before.before.if1.true) in
+    let o = object_inner (7 - a.left) a.at a.bytes.now g.0 g.1.0 g.1.1.0 (read-object-is t f) (sym c.before.before.before.before.before.before.before.before.before.is-list.ensures ∙ c.before.before.before.before.before.before.before.before.if1.true) in
     let i : Out = listing (suc (7 - a.left)) (a.at + g.1.0) (take g.1.1.0 (drop g.1.0 a.bytes.now)) in
     let deeper : 7 - (a.left - 1) ≡ suc (7 - a.left) = omega (arith, (read-object-lies t f).shallow, c.before.before.before.before.before.before.before.before.before.before.before.before.before.before.before.before.before.before.before.before.requires.1) in
     let value : g.1.0 + g.1.1.0 - g.1.0 ≡ g.1.1.0 = add-sub_cancel_left g.1.0 g.1.1.0 in
@@ -510,7 +510,7 @@ read-object-returns-4 t c =
     let a = f.before.before.before.before.before.args in
     let g = f.found2.given.0 in
     done_plain a.k (object (7 - a.left) a.at a.bytes.now) a.room.now c.before.before.before.before.put-entry.new.0 (entry g.0 (7 - a.left) a.at g.1.1.0) (g.1.0 + g.1.1.0)
-    (object-plain (7 - a.left) a.at a.bytes.now g.0 g.1.0 g.1.1.0 (read-object-is t f) (sym c.before.is-list.ensures ∙ c.if1.false)) c.before.before.before.before.put-entry.ensures
+    (object_plain (7 - a.left) a.at a.bytes.now g.0 g.1.0 g.1.1.0 (read-object-is t f) (sym c.before.is-list.ensures ∙ c.if1.false)) c.before.before.before.before.put-entry.ensures
 
 pub +read-list-read-object-spec : {M : Type 1} → statement M
 +read-list-read-object-spec = close μ-read-list μ-read-object (λ t. read-list-lts.spec (

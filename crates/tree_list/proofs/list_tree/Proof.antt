@@ -4,7 +4,7 @@ use mathlib.Core.Path.{◌≡◌, sym, ◌∙◌}
 use Rattle.tree.specs.declared.Scan.TheVariants as S
 use Rattle.tree.specs.Listing.{listing}
 use Rattle.tree.specs.Answers.{scanned}
-use Rattle.tree.proofs.Whole.{too_long, tree-refused, tree-small, tree-listed, few_words}
+use Rattle.tree.proofs.Whole.{too_long, tree_refused, tree_small, tree_listed, few_words}
 use borrow.Author.Rules.{rules}
 use Rattle.tree_list.proofs.list_tree.Statement.{statement}
 use Rattle.tree_list.proofs.list_tree.Tie as tie
@@ -41,7 +41,7 @@ returns-2 : tie.Need-returns-2
 returns-2 c =
     let f = c.before.before.before in
     let a = f.before.before.before.before.before.before.args in
-    let w = tree-small a.bytes.now a.room.now f.before.before.before.if1.false f.first2.given.0.0 f.first2.given.0.1.0 (took f) c.before.if2.true in
+    let w = tree_small a.bytes.now a.room.now f.before.before.before.if1.false f.first2.given.0.0 f.first2.given.0.1.0 (took f) c.before.if2.true in
     (c.refused3.ensures ∙ w.0, w.1)
 
 read-list-requires : tie.Need-read-list-requires
@@ -57,7 +57,7 @@ returns-3 : tie.Need-returns-3
 returns-3 c =
     let f = c.before.before in
     let a = f.before.before.before.before.before.before.args in
-    let w = tree-refused a.bytes.now a.room.now f.before.before.before.if1.false f.first.given.0.0 f.first.given.0.1.0 (sym f.first.given.1 ∙ f.before.before.survey.ensures) in
+    let w = tree_refused a.bytes.now a.room.now f.before.before.before.if1.false f.first.given.0.0 f.first.given.0.1.0 (sym f.first.given.1 ∙ f.before.before.survey.ensures) in
     (c.refused2.ensures ∙ w.0, w.1)
 
 same_length : tie.Need-same-length
@@ -68,7 +68,7 @@ returns-4 c =
     let f = c.before.before.before.before.before.before in
     let a = f.before.before.before.before.before.before.args in
     let r = c.before.before.read-list in
-    tree-listed a.bytes.now a.room.now f.before.before.before.if1.false f.first2.given.0.0 f.first2.given.0.1.0 (took f) c.before.before.before.before.if2.false
+    tree_listed a.bytes.now a.room.now f.before.before.before.if1.false f.first2.given.0.0 f.first2.given.0.1.0 (took f) c.before.before.before.before.if2.false
     r.result r.new.1.1.1.0 r.ensures
 
 pub list-tree-spec : {M : Type 1} → statement M

@@ -6,7 +6,7 @@ use borrow.Author.Tests.{eq-eqb, ne_eqb}
 use lib.ListN.{length, replicate}
 use lib.Seq.{length-take-le}
 use Rattle.tree.specs.declared.TreeAnswer.{TreeAnswer}
-use Rattle.tree.proofs.Whole.{listed-fits}
+use Rattle.tree.proofs.Whole.{listed_fits}
 use Rattle.tree_back.specs.Glue.{same_tree}
 use borrow.Author.Rules.{rules}
 use Rattle.tree_same.proofs.same_tree.Statement.{statement}
@@ -14,7 +14,7 @@ use Rattle.tree_same.proofs.same_tree.Tie as tie
 
 fit : (c : tie.After-list-tree) → c.list-tree.result.count * 4 ≤ length c.list-tree.new.1.0
 fit c =
-    omega (arith, listed-fits c.before.before.before.before.args.bytes.now (replicate 8192 0), c.list-tree.auto.1.0, ap (λ (a : TreeAnswer). a.count) c.list-tree.ensures.0)
+    omega (arith, listed_fits c.before.before.before.before.args.bytes.now (replicate 8192 0), c.list-tree.auto.1.0, ap (λ (a : TreeAnswer). a.count) c.list-tree.ensures.0)
 
 slice-aggregate-list-tree : tie.Need-slice-aggregate-list-tree
 slice-aggregate-list-tree c = search rules

@@ -5,7 +5,7 @@ use native.Mathlib.Omega.{arith}
 use borrow.Author.Rules.{rules}
 use lib.ListN.{length}
 use Rattle.ground.proofs.Runs.{part_to_end}
-use Rattle.tree_back.proofs.Sofar.{Sofar, sofar_none, sofar-more, sofar-few, sofar-no, sofar-left, sofar-end}
+use Rattle.tree_back.proofs.Sofar.{Sofar, sofar_none, sofar_more, sofar_few, sofar_no, sofar_left, sofar_end}
 use Rattle.tree_write.proofs.glue_all.Statement.{statement}
 use Rattle.tree_write.proofs.glue_all.Tie as tie
 
@@ -25,7 +25,7 @@ step c =
     let o = c.before.before.before.before.put-object in
     let e = rw (part_to_end l.q a.values.now) at o.ensures in
     let four : l.i + 4 ≤ length a.words.now = omega (arith, c.before.before.before.before.before.before.before.before.before.before.loop-test.true, c.before.before.before.before.before.before.before.before.before.if1.false) in
-    sofar-more a.words.now a.values.now a.out.now l.out l.i l.p l.q l.invariant four o.new.0
+    sofar_more a.words.now a.values.now a.out.now l.out l.i l.p l.q l.invariant four o.new.0
     c.step.given.0.0 c.step.given.0.1.0 (sym c.step.given.1 ∙ e.0) e.1 o.auto.0
 
 loop-holds : tie.Need-loop-init invariant-loop decreases-loop
@@ -41,7 +41,7 @@ returns : tie.Need-returns invariant-loop decreases-loop
 returns c =
     let a = c.before.before.before.before.before.before.args in
     let l = c.before.before.loop in
-    sofar-few a.words.now a.values.now a.out.now l.out l.i l.p l.q l.invariant c.before.loop-test.true c.if1.true l.out
+    sofar_few a.words.now a.values.now a.out.now l.out l.i l.p l.q l.invariant c.before.loop-test.true c.if1.true l.out
 
 mul-put-object : tie.Need-overflow-mul-put-object invariant-loop decreases-loop
 mul-put-object c = omega arith
@@ -101,7 +101,7 @@ returns-2 c =
     let o = c.before.before.before.before.put-object in
     let e = rw (part_to_end l.q a.values.now) at o.ensures in
     let four : l.i + 4 ≤ length a.words.now = omega (arith, c.before.before.before.before.before.before.before.before.before.before.loop-test.true, c.before.before.before.before.before.before.before.before.before.if1.false) in
-    sofar-no a.words.now a.values.now a.out.now l.out l.i l.p l.q l.invariant four (sym c.enum_told.given.1 ∙ e.0) o.new.0
+    sofar_no a.words.now a.values.now a.out.now l.out l.i l.p l.q l.invariant four (sym c.enum_told.given.1 ∙ e.0) o.new.0
 
 same-length-3 : tie.Need-same-length-3 invariant-loop decreases-loop
 same-length-3 c = c.before.before.loop.invariant.same
@@ -110,7 +110,7 @@ returns-3 : tie.Need-returns-3 invariant-loop decreases-loop
 returns-3 c =
     let a = c.before.before.before.before.before.before.args in
     let l = c.before.before.loop in
-    sofar-left a.words.now a.values.now a.out.now l.out l.i l.p l.q l.invariant c.before.loop-test.false c.if2.true l.out
+    sofar_left a.words.now a.values.now a.out.now l.out l.i l.p l.q l.invariant c.before.loop-test.false c.if2.true l.out
 
 same-length-4 : tie.Need-same-length-4 invariant-loop decreases-loop
 same-length-4 c = c.before.before.loop.invariant.same
@@ -119,7 +119,7 @@ returns-4 : tie.Need-returns-4 invariant-loop decreases-loop
 returns-4 c =
     let a = c.before.before.before.before.before.before.args in
     let l = c.before.before.loop in
-    sofar-end a.words.now a.values.now a.out.now l.out l.i l.p l.q l.invariant c.before.loop-test.false c.if2.false
+    sofar_end a.words.now a.values.now a.out.now l.out l.i l.p l.q l.invariant c.before.loop-test.false c.if2.false
 
 pub glue-all-spec : {M : Type 1} → statement M
 glue-all-spec =

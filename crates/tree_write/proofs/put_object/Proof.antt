@@ -8,7 +8,7 @@ use Rattle.ground.specs.Rooms.{Put}
 use Rattle.ground.proofs.Puts.{put_there}
 use Rattle.lengths.specs.Lengths.{length_field}
 use Rattle.lengths.proofs.Laws.{field_size}
-use Rattle.tree_back.proofs.Putting.{no_tag, no-values, no_room, not-put, put}
+use Rattle.tree_back.proofs.Putting.{no_tag, no_values, no_room, not_put, put}
 use borrow.Author.Rules.{rules}
 use Rattle.tree_write.proofs.put_object.Statement.{statement}
 use Rattle.tree_write.proofs.put_object.Tie as tie
@@ -34,7 +34,7 @@ returns : tie.Need-returns
 returns c =
     let a = c.before.before.before.args in
     let cap = length a.out.now in
-    not-put cap a.p a.tag a.n a.values.now a.out.now a.out.now (no_tag cap a.p a.tag a.n a.values.now c.if1.true)
+    not_put cap a.p a.tag a.n a.values.now a.out.now a.out.now (no_tag cap a.p a.tag a.n a.values.now c.if1.true)
 
 value-size-requires : tie.Need-value-size-requires
 value-size-requires c κs = search rules
@@ -43,7 +43,7 @@ returns-2 : tie.Need-returns-2
 returns-2 c =
     let a = c.before.before.before.before.before.args in
     let cap = length a.out.now in
-    not-put cap a.p a.tag a.n a.values.now a.out.now a.out.now (no-values cap a.p a.tag a.n a.values.now c.before.before.if1.false (omega (arith, c.before.value-size.ensures)))
+    not_put cap a.p a.tag a.n a.values.now a.out.now a.out.now (no_values cap a.p a.tag a.n a.values.now c.before.before.if1.false (omega (arith, c.before.value-size.ensures)))
 
 add-if3 : tie.Need-overflow-add-if3
 add-if3 c = search rules
@@ -55,7 +55,7 @@ returns-3 : tie.Need-returns-3
 returns-3 c =
     let a = c.before.before.before.before.before.before.args in
     let cap = length a.out.now in
-    not-put cap a.p a.tag a.n a.values.now a.out.now a.out.now (no_room cap a.p a.tag a.n a.values.now c.before.before.before.if1.false (omega (arith, c.before.before.value-size.ensures)) (omega (arith, c.before.before.value-size.ensures)))
+    not_put cap a.p a.tag a.n a.values.now a.out.now a.out.now (no_room cap a.p a.tag a.n a.values.now c.before.before.before.if1.false (omega (arith, c.before.before.value-size.ensures)) (omega (arith, c.before.before.value-size.ensures)))
 
 cast-out : tie.Need-overflow-cast-out
 cast-out c = search rules

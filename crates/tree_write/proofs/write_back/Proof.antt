@@ -11,7 +11,7 @@ use Rattle.tree.specs.Trees.{Below}
 use Rattle.tree_back.specs.declared.Glued.TheVariants as G
 use Rattle.tree_back.specs.Sources.{backed}
 use Rattle.tree_back.specs.Glue.{glue, glued_of}
-use Rattle.tree_back.proofs.Ends.{at_none, in-scratch, at_other, at_small, at-wrote}
+use Rattle.tree_back.proofs.Ends.{at_none, in_scratch, at_other, at_small, at_wrote}
 use borrow.Author.Rules.{rules}
 use Rattle.tree_write.proofs.write_back.Statement.{statement}
 use Rattle.tree_write.proofs.write_back.Tie as tie
@@ -24,7 +24,7 @@ fit : (c : tie.After-glued) → c.glued.given.0.0 ≤ length c.before.before.bef
 fit c =
     let a = c.before.before.before.before.before.before.before.before.args in
     let d = c.before.before.before.glue-all in
-    omega (arith, d.auto.1.1.0, in-scratch a.words.now a.values.now a.room.now (backed 0 0) (replicate 4100 0) d.new.1.1.0 c.glued.given.0.0 (glues c) d.ensures.bytes)
+    omega (arith, d.auto.1.1.0, in_scratch a.words.now a.values.now a.room.now (backed 0 0) (replicate 4100 0) d.new.1.1.0 c.glued.given.0.0 (glues c) d.ensures.bytes)
 
 are_words : (c : tie.After-glued) → Below 65536 c.before.before.before.before.before.before.before.before.args.words.now
 are_words c i = (c.before.before.before.before.before.before.before.shared-slice-known.given i).fits
@@ -109,7 +109,7 @@ returns-4 c =
     let n = g.glued.given.0.0 in
     let bytes : List _ = take n d.new.1.1.0 in
     let long = length-take-le n d.new.1.1.0 (fit g) in
-    at-wrote a.words.now a.values.now a.room.now c.answer4.result (replicate 4100 0) d.new.1.1.0 n (glues g) d.ensures.bytes
+    at_wrote a.words.now a.values.now a.room.now c.answer4.result (replicate 4100 0) d.new.1.1.0 n (glues g) d.ensures.bytes
     (are_words g) (are-bytes g) (sym c.before.before.before.before.before.before.before.before.same-tree.ensures ∙ not_false c.before.before.before.before.before.before.before.before.same-tree.result c.before.before.before.before.before.before.before.if1.false) c.before.before.before.before.before.before.if2.false
     c.before.before.before.put.new.0 (put_stored a.room.now 0 bytes (omega (arith, long, c.before.before.before.before.before.before.if2.false)) c.before.before.before.put.ensures.1) c.answer4.ensures
 

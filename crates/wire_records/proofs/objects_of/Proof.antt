@@ -7,7 +7,7 @@ use borrow.Author.Rules.{rules}
 use lib.ListN.{length, take, length-set}
 use Rattle.ground.specs.Pieces.{pieces}
 use Rattle.wire_records.specs.Records.{object_from}
-use Rattle.ground.proofs.Pieces.{part_length, stored_more, stored-all}
+use Rattle.ground.proofs.Pieces.{part_length, stored_more, stored_all}
 use Rattle.wire_records.proofs.objects_of.Statement.{statement}
 use Rattle.wire_records.proofs.objects_of.Tie as tie
 
@@ -63,7 +63,7 @@ returns : tie.Need-returns invariant-loop decreases-loop
 returns c =
     let l = c.before.loop in
     let e : l.k ≡ 16 = omega arith in
-    rw e at (stored-all object_from 29 _ l.objects l.k l.invariant.2 (omega arith))
+    rw e at (stored_all object_from 29 _ l.objects l.k l.invariant.2 (omega arith))
 
 pub objects-of-spec : {M : Type 1} → statement M
 objects-of-spec =

@@ -4,7 +4,7 @@ use Prim.Native.Nat.{ℕ, ◌+◌, ◌-◌, ◌*◌, ◌≤◌, ◌<◌}
 use native.Mathlib.Omega.{arith}
 use lib.ListN.{length, get_or, drop, length-map}
 use Rattle.ground.specs.Pieces.{joined}
-use Rattle.ground.proofs.Puts.{Left, left_start, left-next, left_end}
+use Rattle.ground.proofs.Puts.{Left, left_start, left_next, left_end}
 use Rattle.ground.proofs.Pieces.{joined_next, joined_end}
 use Rattle.card.specs.Content.{no_object}
 use Rattle.wire_records.proofs.RecordsBack.{held_more}
@@ -50,7 +50,7 @@ loop-again c =
       omega arith,
       omega arith,
       omega (arith, put.put-object.ensures.1),
-      left-next l.invariant.3 _ _ (joined_next object_bytes os l.k no_object h) put.put-object.ensures.0,
+      left_next l.invariant.3 _ _ (joined_next object_bytes os l.k no_object h) put.put-object.ensures.0,
       held_more os l.k (omega (arith, put.put-object.ensures.0.place, put.put-object.ensures.1)) l.invariant.4,
     )
 

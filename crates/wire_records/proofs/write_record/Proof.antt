@@ -50,7 +50,7 @@ returns-2 c =
     let full = sets_whole s.args.room.now ((r.first ∷ (r.free ++ (r.last ∷ []))) ++ rest) (omega (arith, all.place, at, end, number.place)) in
     let whole = ap (λ (l : List ℕ). r.first ∷ l) (append_assoc r.free (r.last ∷ []) rest) in
     let free : length r.free ≡ 12 = omega (arith, at, ends.put-ends.ensures.0.place, length-append r.free (r.last ∷ [])) in
-    let held : Whole r = record { free_bytes = free; object-count = sixteen s; object-bytes = each_held r.objects (λ j h. objects.put-objects.ensures.1.1 j (omega (arith, sixteen s))) } in
+    let held : Whole r = record { free_bytes = free; object_count = sixteen s; object_bytes_lem = each_held r.objects (λ j h. objects.put-objects.ensures.1.1 j (omega (arith, sixteen s))) } in
     let is = all.stored ∙ full ∙ whole in
     (is ∙ sym (record_room_lem r _ (omega arith)), λ n. ap lent_record is ∙ record_lent r held)
 

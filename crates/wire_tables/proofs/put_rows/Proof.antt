@@ -5,7 +5,7 @@ use native.Mathlib.Omega.{arith}
 use lib.ListN.{length, drop, length-map}
 use Rattle.edition.specs.Rows.{no_row}
 use Rattle.ground.specs.Pieces.{joined}
-use Rattle.ground.proofs.Puts.{Left, left_start, left-next, left_end}
+use Rattle.ground.proofs.Puts.{Left, left_start, left_next, left_end}
 use Rattle.ground.proofs.Pieces.{joined_next, joined_end}
 use Rattle.wire_tables.specs.Tables.{row_bytes}
 use Rattle.wire_tables.proofs.put_rows.Statement.{statement}
@@ -46,7 +46,7 @@ loop-again c =
     let l = put.before.before.before.before.loop in
     let rows = put.before.before.before.before.before.before.args.t2.rows in
     let h : l.k < length rows = omega (arith, seventeen put.before.before.before.before.before.before) in
-    (omega arith, omega arith, omega (arith, put.put-row.ensures.place), left-next l.invariant.3 _ _ (joined_next row_bytes rows l.k no_row h) put.put-row.ensures)
+    (omega arith, omega arith, omega (arith, put.put-row.ensures.place), left_next l.invariant.3 _ _ (joined_next row_bytes rows l.k no_row h) put.put-row.ensures)
 
 same_length : tie.Need-same-length invariant-loop decreases-loop
 same_length c = omega arith

@@ -7,7 +7,7 @@ use borrow.Author.Rules.{rules}
 use lib.ListN.{length, take, length-set}
 use Rattle.ground.specs.Pieces.{pieces}
 use Rattle.wire_tables.specs.Tables.{row_from, edition_from}
-use Rattle.ground.proofs.Pieces.{stored_more, stored-all}
+use Rattle.ground.proofs.Pieces.{stored_more, stored_all}
 use Rattle.wire_tables.proofs.RowsAt.{row_at}
 use Rattle.wire_tables.proofs.rows_of.Statement.{statement}
 use Rattle.wire_tables.proofs.rows_of.Tie as tie
@@ -96,7 +96,7 @@ unfolding edition_from
 returns c =
     let l = c.before.loop in
     let e : l.k ≡ 17 = omega arith in
-    rw e at (stored-all row_from 6 _ l.rows l.k l.invariant.2 (omega arith))
+    rw e at (stored_all row_from 6 _ l.rows l.k l.invariant.2 (omega arith))
 
 pub rows-of-spec : {M : Type 1} → statement M
 rows-of-spec =

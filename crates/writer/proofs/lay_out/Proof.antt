@@ -7,7 +7,7 @@ use lib.Seq.{length-take-le}
 use Rattle.card.specs.Content.{content_of}
 use Rattle.card.specs.Layout.{filler, objects_of}
 use Rattle.wire_records.specs.Records.{lent_record}
-use Rattle.wire_records.proofs.Parts.{lent-last, lent-free}
+use Rattle.wire_records.proofs.Parts.{lent_last, lent_free}
 use Rattle.writer.proofs.Templates.{template_most, laid_out}
 use borrow.Author.Rules.{rules}
 use Rattle.writer.proofs.lay_out.Statement.{statement}
@@ -30,8 +30,8 @@ ended c =
     let m = template_most (objects_of (content_of (lent_record s.args.bytes.now))) s.requires.0.storable.most in
     (omega (arith, c.write-template.ensures.0), omega (arith, c.write-template.auto.0, f.write-front.auto.0, s.requires.1))
 
-part-long : (c : tie.After-write-template) → length (take (256 - c.write-template.result) (drop c.write-template.result c.write-template.new.0)) ≡ 256 - c.write-template.result
-part-long c =
+part_long : (c : tie.After-write-template) → length (take (256 - c.write-template.result) (drop c.write-template.result c.write-template.new.0)) ≡ 256 - c.write-template.result
+part_long c =
     let k = ended c in
     length-take-le _ _ (omega (arith, k, length-drop c.write-template.result c.write-template.new.0))
 
@@ -54,7 +54,7 @@ write-filler-requires : tie.Need-write-filler-requires
 write-filler-requires c κs =
     let t = c.before.before.before.before in
     let k = ended t in
-    let n = part-long t in
+    let n = part_long t in
     (omega (arith, n, k), omega (arith, n, k))
 
 same_length : tie.Need-same-length
@@ -72,10 +72,10 @@ returns c =
     let l = t.write-template.new.0 in
     let end = t.write-template.result in
     let k = ended t in
-    let part = part-long t in
+    let part = part_long t in
     let n : length (take (256 - end) (drop end l)) - 1 ≡ 255 - end = omega (arith, part, k) in
-    let free : length r.free ≡ 12 = ap length (lent-free bs s.requires.0.sized) ∙ length-take-le 12 (drop 1 bs) (omega (arith, s.requires.0.sized, length-drop 1 bs)) in
-    let fills = f.write-filler.ensures ∙ ap (λ (m : ℕ). filler m (get_or bs 13 0)) n ∙ ap (filler (255 - end)) (sym (lent-last bs s.requires.0.sized)) in
+    let free : length r.free ≡ 12 = ap length (lent_free bs s.requires.0.sized) ∙ length-take-le 12 (drop 1 bs) (omega (arith, s.requires.0.sized, length-drop 1 bs)) in
+    let fills = f.write-filler.ensures ∙ ap (λ (m : ℕ). filler m (get_or bs 13 0)) n ∙ ap (filler (255 - end)) (sym (lent_last bs s.requires.0.sized)) in
     laid_out s.args.room.now (content_of r) l (drop (256 - end) (drop end l)) end (omega (arith, s.requires.1)) free h.write-front.ensures t.write-template.ensures.1 t.write-template.ensures.0
     fills (omega (arith, f.write-filler.auto.0, part, k)) refl
 

@@ -7,7 +7,7 @@ use lib.ListN.{length, take, drop, replicate, length-drop, length-replicate}
 use lib.Seq.{sets, length-take-le}
 use Rattle.ground.proofs.Puts.{put_whole}
 use Rattle.card.specs.Layout.{head}
-use Rattle.wire_records.proofs.Parts.{lent-first, lent-free}
+use Rattle.wire_records.proofs.Parts.{lent_first, lent_free}
 use borrow.Author.Rules.{rules}
 use Rattle.writer.proofs.write_front.Statement.{statement}
 use Rattle.writer.proofs.write_front.Tie as tie
@@ -44,7 +44,7 @@ returns c =
     let bs = s.args.bytes.now in
     let twelve : length (take 12 (drop 1 bs)) ≡ length (replicate {A = ℕ} 12 0) = length-take-le 12 (drop 1 bs) (omega (arith, s.requires.0, length-drop 1 bs)) ∙ sym (length-replicate {A = ℕ} 12 0) in
     let free = put_whole _ (take 12 (drop 1 bs)) twelve p.put.ensures.1 in
-    h.write-head.ensures ∙ ap₂ (λ (x : ℕ) (y : List ℕ). sets s.args.room.now 0 (head x y)) (sym (lent-first bs s.requires.0)) (free ∙ sym (lent-free bs s.requires.0))
+    h.write-head.ensures ∙ ap₂ (λ (x : ℕ) (y : List ℕ). sets s.args.room.now 0 (head x y)) (sym (lent_first bs s.requires.0)) (free ∙ sym (lent_free bs s.requires.0))
 
 pub write-front-spec : {M : Type 1} → statement M
 write-front-spec =

@@ -3,7 +3,7 @@ use mathlib.Core.Path.{◌≡◌, refl}
 use Prim.Native.Nat.{◌-◌, ◌≤◌}
 use native.Mathlib.Omega.{arith}
 use lib.ListN.{length, take, length-set}
-use Rattle.differences.proofs.Filled.{stored_next, stored-end}
+use Rattle.differences.proofs.Filled.{stored_next, stored_end}
 use borrow.Author.Rules.{rules}
 use Rattle.calls_pairs.proofs.comparing.put_words.Statement.{statement}
 use Rattle.calls_pairs.proofs.comparing.put_words.Tie as tie
@@ -47,7 +47,7 @@ same_length c = omega (arith, c.before.loop.invariant.1, c.before.before.require
 returns : tie.Need-returns invariant-loop decreases-loop
 returns c =
     let l = c.before.loop in
-    stored-end c.before.before.args.t2 l.room l.i l.invariant.3 (omega (arith, l.invariant.1)) (omega (arith, l.invariant.2))
+    stored_end c.before.before.args.t2 l.room l.i l.invariant.3 (omega (arith, l.invariant.1)) (omega (arith, l.invariant.2))
 
 pub put-words-spec : {M : Type 1} → statement M
 put-words-spec =

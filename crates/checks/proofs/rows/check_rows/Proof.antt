@@ -9,9 +9,9 @@ use Rattle.card.specs.Refusing.{rows_refusal}
 use Rattle.edition.proofs.Rows.{formed_rows, formed_within}
 use Rattle.ground.proofs.Pieces.{part_length}
 use Rattle.wire_records.specs.Records.{lent_record}
-use Rattle.wire_records.proofs.Parts.{lent-count}
+use Rattle.wire_records.proofs.Parts.{lent_count}
 use Rattle.object_sizes.proofs.Lent.{object_part}
-use Rattle.checks.proofs.Faults.{rows_from, rows_start, rows_end, rows_pass, rows-stop}
+use Rattle.checks.proofs.Faults.{rows_from, rows_start, rows_end, rows_pass, rows_stop}
 use Rattle.checks.proofs.rows.check_rows.Statement.{statement}
 use Rattle.checks.proofs.rows.check_rows.Tie as tie
 
@@ -71,7 +71,7 @@ returns c =
     let s = r.before.before.before.before.before.before.before.before in
     let bs = s.args.bytes.now in
     let is = rw (object_part bs s.requires.0 l.i (omega arith)) at r.check-row.ensures in
-    sym (rows-stop s.args.t1.rows (lent_record bs).objects l.i (omega arith) (seventeen s) (lent-count bs s.requires.0) _ r.before.before.tag_of.ensures is c.if1.true) ∙ l.invariant.1
+    sym (rows_stop s.args.t1.rows (lent_record bs).objects l.i (omega arith) (seventeen s) (lent_count bs s.requires.0) _ r.before.before.tag_of.ensures is c.if1.true) ∙ l.invariant.1
 
 add-i : tie.Need-overflow-add-i invariant-loop decreases-loop
 add-i c = omega arith
@@ -86,7 +86,7 @@ loop-again c =
     let s = r.before.before.before.before.before.before.before.before in
     let bs = s.args.bytes.now in
     let is = rw (object_part bs s.requires.0 l.i (omega arith)) at r.check-row.ensures in
-    (omega arith, rows_pass s.args.t1.rows (lent_record bs).objects l.i (omega arith) (seventeen s) (lent-count bs s.requires.0) _ r.before.before.tag_of.ensures is c.if1.false ∙ l.invariant.1)
+    (omega arith, rows_pass s.args.t1.rows (lent_record bs).objects l.i (omega arith) (seventeen s) (lent_count bs s.requires.0) _ r.before.before.tag_of.ensures is c.if1.false ∙ l.invariant.1)
 
 returns-2 : tie.Need-returns-2 invariant-loop decreases-loop
 returns-2 c =

@@ -2,7 +2,7 @@
 use mathlib.Core.Path.{sym, ◌∙◌}
 use native.Mathlib.Omega.{arith}
 use Rattle.ground.proofs.Lists.{agree_within}
-use Rattle.differences.proofs.Single.{values_unlike, index-none, index-some}
+use Rattle.differences.proofs.Single.{values_unlike, index_none, index_some}
 use borrow.Author.Rules.{rules}
 use Rattle.differences.proofs.entries.object_entry.Statement.{statement}
 use Rattle.differences.proofs.entries.object_entry.Tie as tie
@@ -21,7 +21,7 @@ count-same-requires c κs = search rules
 returns-2 : tie.Need-returns-2
 returns-2 c =
     let a = c.before.before.before.before.before.args in
-    index-none a.tag a.first.now a.second.now _ c.before.before.if1.false c.before.count_same.ensures c.if2.true
+    index_none a.tag a.first.now a.second.now _ c.before.before.if1.false c.before.count_same.ensures c.if2.true
 
 word-of-requires : tie.Need-word-of-requires
 word-of-requires c κs =
@@ -31,7 +31,7 @@ word-of-requires c κs =
 returns-3 : tie.Need-returns-3
 returns-3 c =
     let a = c.before.before.before.before.before.before.args in
-    index-some a.tag a.first.now a.second.now _ c.before.before.before.if1.false c.before.before.count_same.ensures c.before.if2.false _ c.word_of.ensures
+    index_some a.tag a.first.now a.second.now _ c.before.before.before.if1.false c.before.before.count_same.ensures c.before.if2.false _ c.word_of.ensures
 
 pub object-entry-spec : {M : Type 1} → statement M
 object-entry-spec =

@@ -4,7 +4,7 @@ use mathlib.Core.List.{List}
 use Prim.Native.Nat.{ℕ, ◌+◌, ◌-◌, ◌≤◌}
 use native.Mathlib.Omega.{arith}
 use lib.ListN.{length, get_or}
-use Rattle.ground.proofs.Puts.{Left, left_start, left-next, left_end}
+use Rattle.ground.proofs.Puts.{Left, left_start, left_next, left_end}
 use Rattle.differences.specs.Differences.{addresses}
 use Rattle.differences.specs.Steps.{byte_words}
 use Rattle.differences.proofs.Single.{some_few}
@@ -65,7 +65,7 @@ loop-again c =
     let l = at.loop in
     let a = at.before.before.before.before.args in
     let next = bytes_next a.first.now a.second.now l.i (omega arith) _ (ap (λ (xs : List ℕ). get_or xs l.i 0) l.invariant.3) _ found.byte-entry.ensures in
-    (omega arith, omega (arith, put.put-entry.auto.0, l.invariant.1), omega (arith, put.put-entry.ensures.place, some_few found.byte-entry.result, l.invariant.2), l.invariant.3, left-next l.invariant.4 _ _ next put.put-entry.ensures)
+    (omega arith, omega (arith, put.put-entry.auto.0, l.invariant.1), omega (arith, put.put-entry.ensures.place, some_few found.byte-entry.result, l.invariant.2), l.invariant.3, left_next l.invariant.4 _ _ next put.put-entry.ensures)
 
 same_length : tie.Need-same-length invariant-loop decreases-loop
 same_length c = omega arith

@@ -3,7 +3,7 @@ use mathlib.Core.Path.{◌≡◌, refl, ◌∙◌}
 use Prim.Native.Nat.{◌+◌, ◌-◌, ◌≤◌, ◌<◌}
 use native.Mathlib.Omega.{arith}
 use lib.ListN.{length, get_or, length-take}
-use Rattle.ground.proofs.Puts.{Left, left_start, left-next, left_end}
+use Rattle.ground.proofs.Puts.{Left, left_start, left_next, left_end}
 use Rattle.reader_steps.specs.Steps.{values_at}
 use Rattle.reader_steps.proofs.Copies.{values_length}
 use Rattle.differences.specs.Steps.{object_words}
@@ -122,7 +122,7 @@ loop-again c =
     (values_length a.first.now a.t3 a.t4 (omega arith) ∙ hs) (values_length a.second.now a.t6 a.t7 (omega arith) ∙ ks) h
     _ tag.tag_of.ensures _ _ (part_value a.first.now a.t3 a.t4 l.i (omega arith)) (part_value a.second.now a.t6 a.t7 l.i (omega arith))
     _ found.object-entry.ensures in
-    (omega arith, omega (arith, put.put-entry.auto.0, l.invariant.1), omega (arith, put.put-entry.ensures.place, some_few found.object-entry.result, l.invariant.2), left-next l.invariant.3 _ _ next put.put-entry.ensures)
+    (omega arith, omega (arith, put.put-entry.auto.0, l.invariant.1), omega (arith, put.put-entry.ensures.place, some_few found.object-entry.result, l.invariant.2), left_next l.invariant.3 _ _ next put.put-entry.ensures)
 
 same_length : tie.Need-same-length invariant-loop decreases-loop
 same_length c = omega arith

@@ -11,7 +11,7 @@ use lib.ListN.{length, get_or, drop, length-map}
 use Rattle.edition.specs.declared.Row.{Row}
 use Rattle.edition.specs.declared.Formed.TheVariants.{Well}
 use Rattle.edition.specs.Rows.{no_row, row_formed, formed_from, formed_told}
-use Rattle.edition.proofs.Rows.{formed-pass, formed-stop, formed-end, bad_formed, unnumbered, well_formed}
+use Rattle.edition.proofs.Rows.{formed_pass, formed_stop, formed_end, bad_formed, unnumbered, well_formed}
 use Rattle.edition.proofs.Edition.formed.Statement.{statement}
 use Rattle.edition.proofs.Edition.formed.Tie as tie
 
@@ -47,7 +47,7 @@ returns c =
     let l = seventeen s in
     let h = c.before.before.before.before.loop in
     let f = early h.i (get_or s.args.t1.rows h.i no_row) _ (omega arith) (sym c.before.object-formed.ensures ∙ not_true _ c.if1.true) in
-    ap formed_told (sym (bad_formed _ h.i (sym h.invariant.1 ∙ formed-stop _ h.i (omega arith) f)))
+    ap formed_told (sym (bad_formed _ h.i (sym h.invariant.1 ∙ formed_stop _ h.i (omega arith) f)))
 
 add-i : tie.Need-overflow-add-i invariant-loop decreases-loop
 add-i c = search rules
@@ -61,7 +61,7 @@ loop-again c =
     let l = seventeen s in
     let h = c.before.before.before.before.loop in
     let f = early h.i (get_or s.args.t1.rows h.i no_row) _ (omega arith) (sym c.before.object-formed.ensures ∙ not_false _ c.if1.false) in
-    (search rules, formed-pass _ h.i (omega arith) f ∙ h.invariant.1)
+    (search rules, formed_pass _ h.i (omega arith) f ∙ h.invariant.1)
 
 element-copy-out-last : tie.Need-element-copy-out-last invariant-loop decreases-loop
 element-copy-out-last c = search rules
@@ -83,7 +83,7 @@ returns-2 c =
     let a = c.before.before in
     let s = a.before.before.before in
     let l = seventeen s in
-    ap formed_told (sym (bad_formed _ 16 (sym (due a) ∙ formed-stop s.args.t1.rows 16 (omega arith) (sym c.before.last-formed.ensures ∙ not_true _ c.if2.true))))
+    ap formed_told (sym (bad_formed _ 16 (sym (due a) ∙ formed_stop s.args.t1.rows 16 (omega arith) (sym c.before.last-formed.ensures ∙ not_true _ c.if2.true))))
 
 -- all rows are well formed
 rows-well : (c : tie.After-last-formed invariant-loop decreases-loop) →
@@ -92,8 +92,8 @@ rows-well : (c : tie.After-last-formed invariant-loop decreases-loop) →
 rows-well c t =
     let s = c.before.before.before.before in
     let l = seventeen s in
-    let f = formed-pass s.args.t1.rows 16 (omega arith) (sym c.last-formed.ensures ∙ t) in
-    sym (due c.before) ∙ sym f ∙ formed-end s.args.t1.rows 17 (omega arith)
+    let f = formed_pass s.args.t1.rows 16 (omega arith) (sym c.last-formed.ensures ∙ t) in
+    sym (due c.before) ∙ sym f ∙ formed_end s.args.t1.rows 17 (omega arith)
 
 returns-3 : tie.Need-returns-3 invariant-loop decreases-loop
 returns-3 c = ap formed_told (sym (unnumbered _ (rows-well c.before.before (not_false _ c.before.if2.false)) c.if3.true))

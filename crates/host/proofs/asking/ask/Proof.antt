@@ -3,7 +3,7 @@ use native.Mathlib.Omega.{arith}
 use mathlib.Core.Path.{ap, ◌∙◌}
 use Rattle.card.specs.declared.Refusal.{Refusal}
 use Rattle.frame.specs.Checks.{front_of}
-use Rattle.host.proofs.Replies.{asked-unfit, asked-refused, asked-range, asked-inside}
+use Rattle.host.proofs.Replies.{asked_unfit, asked_refused, asked_range, asked_inside}
 use borrow.Author.Rules.{rules}
 use Rattle.host.proofs.asking.ask.Statement.{statement}
 use Rattle.host.proofs.asking.ask.Tie as tie
@@ -18,7 +18,7 @@ returns : tie.Need-returns
 returns c =
     let p = c.before.before in
     let a = p.before.before.before.args in
-    rw c.decline.ensures (asked-unfit a.edition a.image.now _ _ p.parse.ensures c.before.if1.true, omega arith)
+    rw c.decline.ensures (asked_unfit a.edition a.image.now _ _ p.parse.ensures c.before.if1.true, omega arith)
 
 places-requires : tie.Need-places-requires
 places-requires c κs = search rules
@@ -32,7 +32,7 @@ returns-2 c =
     let p = t.before.before in
     let a = p.before.before.before.args in
     rw c.decline2.ensures
-    (asked-refused a.edition a.image.now _ _ p.parse.ensures t.before.if1.false _ t.places.ensures c.before.if2.true, omega arith)
+    (asked_refused a.edition a.image.now _ _ p.parse.ensures t.before.if1.false _ t.places.ensures c.before.if2.true, omega arith)
 
 none-requires : tie.Need-none-requires
 none-requires c κs = search rules
@@ -51,8 +51,8 @@ returns-3 c =
     let a = p.before.before.before.args in
     let front = c.before.check-front.ensures ∙ ap (λ (x : Refusal). front_of x a.image.now) c.before.before.none.ensures in
     rw c.choose.ensures (
-      asked-range a.edition a.image.now _ _ p.parse.ensures t.before.if1.false _ t.places.ensures e.if2.false _ front,
-      asked-inside a.edition a.image.now _ _ p.parse.ensures t.before.if1.false _ t.places.ensures e.if2.false _ front,
+      asked_range a.edition a.image.now _ _ p.parse.ensures t.before.if1.false _ t.places.ensures e.if2.false _ front,
+      asked_inside a.edition a.image.now _ _ p.parse.ensures t.before.if1.false _ t.places.ensures e.if2.false _ front,
     )
 
 pub ask-spec : {M : Type 1} → statement M

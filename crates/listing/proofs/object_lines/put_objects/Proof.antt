@@ -6,7 +6,7 @@ use lib.ListN.{length, length-map}
 use Rattle.card.specs.Layout.{object_tags}
 use Rattle.listing.specs.Listing.{object_lines}
 use Rattle.listing.specs.Rooms.{shown_of}
-use Rattle.ground.proofs.Puts.{Left, left_start, left-next, left_end}
+use Rattle.ground.proofs.Puts.{Left, left_start, left_next, left_end}
 use Rattle.listing.proofs.Lines.{from, from_next, from_end}
 use Rattle.listing.proofs.object_lines.put_objects.Statement.{statement}
 use Rattle.listing.proofs.object_lines.put_objects.Tie as tie
@@ -49,7 +49,7 @@ loop-again c =
     let s = at.before.before in
     let l = at.loop in
     let h : l.i < 16 = omega arith in
-    (omega arith, omega arith, omega arith, left-next l.invariant.3 _ (from (l.i + 1) s.args.t3.objects) (from_next s.args.t3.objects l.i h (sixteen s) _ tag.tag_of.ensures) put.put-object.ensures.0)
+    (omega arith, omega arith, omega arith, left_next l.invariant.3 _ (from (l.i + 1) s.args.t3.objects) (from_next s.args.t3.objects l.i h (sixteen s) _ tag.tag_of.ensures) put.put-object.ensures.0)
 
 same_length : tie.Need-same-length invariant-loop decreases-loop
 same_length c = omega arith

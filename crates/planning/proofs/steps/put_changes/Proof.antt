@@ -3,7 +3,7 @@ use mathlib.Core.Path.{◌≡◌, refl}
 use Prim.Native.Nat.{◌+◌, ◌-◌, ◌≤◌}
 use native.Mathlib.Omega.{arith}
 use lib.ListN.{length, drop, get_or}
-use Rattle.ground.proofs.Puts.{Left, left_start, left-next, left_end}
+use Rattle.ground.proofs.Puts.{Left, left_start, left_next, left_end}
 use Rattle.planning.specs.Planning.{changes}
 use Rattle.planning.proofs.Changes.{changes_start, changes_next, changes_end, change_few}
 use Rattle.planning.proofs.steps.put_changes.Statement.{statement}
@@ -49,7 +49,7 @@ loop-again c =
     let a = s.args in
     let few = change_few (a.base + l.i) (get_or a.old.now l.i 0) (get_or a.new.now l.i 0) in
     let next = changes_next a.base a.old.now a.new.now l.i (omega arith) s.requires.2 in
-    (omega arith, omega (arith, p.auto.0, l.invariant.1), omega (arith, p.ensures.place, few, l.invariant.2), left-next l.invariant.3 _ _ next p.ensures)
+    (omega arith, omega (arith, p.auto.0, l.invariant.1), omega (arith, p.ensures.place, few, l.invariant.2), left_next l.invariant.3 _ _ next p.ensures)
 
 same_length : tie.Need-same-length invariant-loop decreases-loop
 same_length c = omega arith

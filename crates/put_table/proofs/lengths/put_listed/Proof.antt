@@ -3,7 +3,7 @@ use mathlib.Core.Path.{◌≡◌, refl}
 use Prim.Native.Nat.{◌+◌, ◌-◌, ◌*◌, ◌≤◌}
 use native.Mathlib.Omega.{arith}
 use lib.ListN.{length}
-use Rattle.ground.proofs.Puts.{Left, left_start, left-next, left_end}
+use Rattle.ground.proofs.Puts.{Left, left_start, left_next, left_end}
 use Rattle.table_text.specs.Texts.{length_parts}
 use Rattle.table_text.proofs.LengthLaws.{parts_next, parts_end}
 use Rattle.put_table.proofs.lengths.put_listed.Statement.{statement}
@@ -32,7 +32,7 @@ loop-again : tie.Need-loop-preserved invariant-loop decreases-loop
 loop-again c =
     let put = c.before.before in
     let l = put.before.before.before.loop in
-    (omega arith, omega arith, omega arith, left-next l.invariant.3 _ _ (parts_next _ l.n (omega arith)) put.put-length.ensures.0)
+    (omega arith, omega arith, omega arith, left_next l.invariant.3 _ _ (parts_next _ l.n (omega arith)) put.put-length.ensures.0)
 
 same_length : tie.Need-same-length invariant-loop decreases-loop
 same_length c = omega arith

@@ -3,7 +3,7 @@ use mathlib.Core.Path.{◌≡◌, refl}
 use Prim.Native.Nat.{◌+◌, ◌-◌, ◌*◌, ◌≤◌, ◌<◌}
 use native.Mathlib.Omega.{arith}
 use lib.ListN.{length, drop, length-map}
-use Rattle.ground.proofs.Puts.{Left, left_start, left-next, left_end}
+use Rattle.ground.proofs.Puts.{Left, left_start, left_next, left_end}
 use Rattle.table_text.specs.Texts.{rows_text}
 use Rattle.table_text.proofs.RowLaws.{rows_next, rows_end}
 use Rattle.put_table.proofs.rows.put_rows.Statement.{statement}
@@ -44,7 +44,7 @@ loop-again c =
     let l = at.loop in
     let s = at.before.before in
     let h : l.k < length s.args.t3.rows = omega (arith, seventeen s) in
-    (omega arith, omega arith, omega arith, left-next l.invariant.3 _ _ (rows_next s.args.t3.rows l.k h) put.put-row.ensures.0)
+    (omega arith, omega arith, omega arith, left_next l.invariant.3 _ _ (rows_next s.args.t3.rows l.k h) put.put-row.ensures.0)
 
 same_length : tie.Need-same-length invariant-loop decreases-loop
 same_length c = omega arith

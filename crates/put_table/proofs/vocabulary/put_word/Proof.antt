@@ -1,6 +1,6 @@
 -- `vocabulary::put_word` meets its contract: a word is its part of the string of all words, and has 16 bytes at most. Assumes nothing.
 use Prim.Native.Nat.{◌<◌}
-use Rattle.table_text.proofs.WordParts.{word-part, word_after, word-within, word-short, word-length}
+use Rattle.table_text.proofs.WordParts.{word_part, word_after, word_within, word_short, word_length}
 use native.Mathlib.Omega.{arith}
 use borrow.Author.Rules.{rules}
 use Rattle.put_table.proofs.vocabulary.put_word.Statement.{statement}
@@ -22,7 +22,7 @@ put-part-requires : tie.Need-put-part-requires
 put-part-requires c κs =
     let i = c.before.before.before.before.before.args.i in
     let h : i < 29 = omega arith in
-    (omega (arith, word_after i h), omega (arith, word-within i h), omega (arith, word-short i h, word_after i h))
+    (omega (arith, word_after i h), omega (arith, word_within i h), omega (arith, word_short i h, word_after i h))
 
 same_length : tie.Need-same-length
 same_length c = search rules
@@ -32,8 +32,8 @@ returns c =
     let put = c.before.before in
     let i = c.before.before.before.before.before.before.before.before.args.i in
     let h : i < 29 = omega arith in
-    let told = rw (put.before.before.before.before.start_of_lem.ensures, put.before.before.before.start-of2.ensures, word-part i h) at put.put-part.ensures in
-    (told, omega (arith, told.place, word-length i h))
+    let told = rw (put.before.before.before.before.start_of_lem.ensures, put.before.before.before.start-of2.ensures, word_part i h) at put.put-part.ensures in
+    (told, omega (arith, told.place, word_length i h))
 
 pub put-word-spec : {M : Type 1} → statement M
 put-word-spec =

@@ -6,7 +6,7 @@ use lib.ListN.{length, drop}
 use Rattle.ground.specs.Lists.{among}
 use Rattle.differences.specs.Answers.{word}
 use Rattle.rebuilding.specs.Rebuilding.{names_address}
-use Rattle.rebuilding.proofs.Named.{among-here, among-behind, among-end}
+use Rattle.rebuilding.proofs.Named.{among_here, among_behind, among_end}
 use borrow.Author.Rules.{rules}
 use Rattle.rebuilding.proofs.listed.names_address.Statement.{statement}
 use Rattle.rebuilding.proofs.listed.names_address.Tie as tie
@@ -36,7 +36,7 @@ returns : tie.Need-returns invariant-loop decreases-loop
 unfolding names_address
 returns c =
     let l = c.before.before.before.loop in
-    sym (among-here _ _ l.i (omega arith) (c.if1.true ∙ l.invariant.1)) ∙ l.invariant.2
+    sym (among_here _ _ l.i (omega arith) (c.if1.true ∙ l.invariant.1)) ∙ l.invariant.2
 
 add-i : tie.Need-overflow-add-i invariant-loop decreases-loop
 add-i c = search rules
@@ -47,13 +47,13 @@ loop-less c = search rules
 loop-again : tie.Need-loop-preserved invariant-loop decreases-loop
 loop-again c =
     let l = c.before.before.before.loop in
-    (omega arith, l.invariant.1, sym (among-behind _ _ l.i (omega arith) (λ e. c.if1.false (e ∙ sym l.invariant.1))) ∙ l.invariant.2)
+    (omega arith, l.invariant.1, sym (among_behind _ _ l.i (omega arith) (λ e. c.if1.false (e ∙ sym l.invariant.1))) ∙ l.invariant.2)
 
 returns-2 : tie.Need-returns-2 invariant-loop decreases-loop
 unfolding names_address
 returns-2 c =
     let l = c.before.loop in
-    sym (among-end _ _ l.i (omega arith)) ∙ l.invariant.2
+    sym (among_end _ _ l.i (omega arith)) ∙ l.invariant.2
 
 pub names-address-spec : {M : Type 1} → statement M
 names-address-spec =

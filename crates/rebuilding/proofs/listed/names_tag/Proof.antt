@@ -6,7 +6,7 @@ use native.Mathlib.Omega.{arith}
 use lib.ListN.{length, drop, length-map, get_or-map}
 use Rattle.ground.specs.Lists.{among}
 use Rattle.rebuilding.specs.Rebuilding.{tag_in, names_tag}
-use Rattle.rebuilding.proofs.Named.{among-here, among-behind, among-end}
+use Rattle.rebuilding.proofs.Named.{among_here, among_behind, among_end}
 use borrow.Author.Rules.{rules}
 use Rattle.rebuilding.proofs.listed.names_tag.Statement.{statement}
 use Rattle.rebuilding.proofs.listed.names_tag.Tie as tie
@@ -32,7 +32,7 @@ returns c =
     let l = c.before.before.before.loop in
     let s = c.before.before.before.before in
     let n = length-map s.args.entries.now tag_in in
-    sym (among-here _ _ l.i (omega arith) (get_or-map tag_in s.args.entries.now l.i 0 ∙ c.if1.true)) ∙ l.invariant.1
+    sym (among_here _ _ l.i (omega arith) (get_or-map tag_in s.args.entries.now l.i 0 ∙ c.if1.true)) ∙ l.invariant.1
 
 add-i : tie.Need-overflow-add-i invariant-loop decreases-loop
 add-i c = search rules
@@ -45,14 +45,14 @@ loop-again c =
     let l = c.before.before.before.loop in
     let s = c.before.before.before.before in
     let n = length-map s.args.entries.now tag_in in
-    (omega arith, sym (among-behind _ _ l.i (omega arith) (λ e. c.if1.false (sym (get_or-map tag_in s.args.entries.now l.i 0) ∙ e))) ∙ l.invariant.1)
+    (omega arith, sym (among_behind _ _ l.i (omega arith) (λ e. c.if1.false (sym (get_or-map tag_in s.args.entries.now l.i 0) ∙ e))) ∙ l.invariant.1)
 
 returns-2 : tie.Need-returns-2 invariant-loop decreases-loop
 unfolding names_tag
 returns-2 c =
     let l = c.before.loop in
     let n = length-map c.before.before.args.entries.now tag_in in
-    sym (among-end _ _ l.i (omega arith)) ∙ l.invariant.1
+    sym (among_end _ _ l.i (omega arith)) ∙ l.invariant.1
 
 pub names-tag-spec : {M : Type 1} → statement M
 names-tag-spec =

@@ -7,8 +7,8 @@ use native.Mathlib.Omega.{arith}
 use lib.ListN.{length, get_or, take, length-set}
 use Rattle.differences.specs.Differences.{free_addresses}
 use Rattle.rebuilding.specs.Rebuilding.{names_address, mended}
-use Rattle.differences.proofs.Filled.{stored_next, stored-end}
-use Rattle.rebuilding.proofs.Picked.{mended-length, mended-at}
+use Rattle.differences.proofs.Filled.{stored_next, stored_end}
+use Rattle.rebuilding.proofs.Picked.{mended_length, mended_at}
 use borrow.Author.Rules.{rules}
 use Rattle.rebuilding.proofs.mending.mend_free.Statement.{statement}
 use Rattle.rebuilding.proofs.mending.mend_free.Tie as tie
@@ -51,18 +51,18 @@ loop-again c =
     let a = c.before.before.before.before.args in
     let listed = names_address a.entries.now in
     let i = l.invariant in
-    let many = mended-length listed free_addresses a.t2 a.t3 i.3 i.4 in
+    let many = mended_length listed free_addresses a.t2 a.t3 i.3 i.4 in
     let h : l.i < 12 = omega arith in
     let is = put.ensures ∙ ap (λ (xs : List ℕ). cond (listed (get_or xs l.i 0)) (get_or a.t3 l.i 0) (get_or a.t2 l.i 0)) i.2 in
-    (omega arith, simp length-set i.1, i.2, i.3, i.4, stored_next _ _ l.i i.5 0 _ (omega (arith, i.1)) (omega (arith, many)) (is ∙ sym (mended-at listed free_addresses a.t2 a.t3 0 l.i i.3 i.4 h)))
+    (omega arith, simp length-set i.1, i.2, i.3, i.4, stored_next _ _ l.i i.5 0 _ (omega (arith, i.1)) (omega (arith, many)) (is ∙ sym (mended_at listed free_addresses a.t2 a.t3 0 l.i i.3 i.4 h)))
 
 returns : tie.Need-returns invariant-loop decreases-loop
 returns c =
     let l = c.before.loop in
     let a = c.before.before.before.args in
     let e : l.i ≡ 12 = omega arith in
-    let many = mended-length (names_address a.entries.now) free_addresses a.t2 a.t3 l.invariant.3 l.invariant.4 in
-    stored-end _ _ l.i l.invariant.5 (omega (arith, l.invariant.1)) (omega (arith, many))
+    let many = mended_length (names_address a.entries.now) free_addresses a.t2 a.t3 l.invariant.3 l.invariant.4 in
+    stored_end _ _ l.i l.invariant.5 (omega (arith, l.invariant.1)) (omega (arith, many))
 
 pub mend-free-spec : {M : Type 1} → statement M
 mend-free-spec =

@@ -10,8 +10,8 @@ use Rattle.card.specs.Content.{no_object}
 use Rattle.card.specs.Layout.{object_tags}
 use Rattle.rebuilding.specs.Rebuilding.{names_tag, mended}
 use Rattle.differences.proofs.Words.{tags_16}
-use Rattle.differences.proofs.Filled.{stored_next, stored-end}
-use Rattle.rebuilding.proofs.Picked.{mended-length, mended-at}
+use Rattle.differences.proofs.Filled.{stored_next, stored_end}
+use Rattle.rebuilding.proofs.Picked.{mended_length, mended_at}
 use borrow.Author.Rules.{rules}
 use Rattle.rebuilding.proofs.mending.mend_objects.Statement.{statement}
 use Rattle.rebuilding.proofs.mending.mend_objects.Tie as tie
@@ -66,17 +66,17 @@ loop-again c =
     let i = l.invariant in
     let h : l.i < 16 = omega arith in
     let at = tag.tag_of.ensures ∙ sym (get_or-take 16 tags l.i 0 h) in
-    let many = mended-length listed object_tags a.t2 a.t3 (i.2 ∙ sym tags_16) (i.3 ∙ sym tags_16) in
+    let many = mended_length listed object_tags a.t2 a.t3 (i.2 ∙ sym tags_16) (i.3 ∙ sym tags_16) in
     let is = put.ensures ∙ ap (λ (t : ℕ). cond (listed t) (get_or a.t3 l.i no_object) (get_or a.t2 l.i no_object)) at in
-    (omega arith, simp length-set i.1, i.2, i.3, stored_next _ _ l.i i.4 no_object _ (omega (arith, i.1)) (omega (arith, many, tags_16)) (is ∙ sym (mended-at listed object_tags a.t2 a.t3 no_object l.i (i.2 ∙ sym tags_16) (i.3 ∙ sym tags_16) (omega (arith, tags_16)))))
+    (omega arith, simp length-set i.1, i.2, i.3, stored_next _ _ l.i i.4 no_object _ (omega (arith, i.1)) (omega (arith, many, tags_16)) (is ∙ sym (mended_at listed object_tags a.t2 a.t3 no_object l.i (i.2 ∙ sym tags_16) (i.3 ∙ sym tags_16) (omega (arith, tags_16)))))
 
 returns : tie.Need-returns invariant-loop decreases-loop
 returns c =
     let l = c.before.loop in
     let a = c.before.before.before.args in
     let e : l.i ≡ 16 = omega arith in
-    let many = mended-length (names_tag a.entries.now) object_tags a.t2 a.t3 (l.invariant.2 ∙ sym tags_16) (l.invariant.3 ∙ sym tags_16) in
-    stored-end _ _ l.i l.invariant.4 (omega (arith, l.invariant.1)) (omega (arith, many, tags_16))
+    let many = mended_length (names_tag a.entries.now) object_tags a.t2 a.t3 (l.invariant.2 ∙ sym tags_16) (l.invariant.3 ∙ sym tags_16) in
+    stored_end _ _ l.i l.invariant.4 (omega (arith, l.invariant.1)) (omega (arith, many, tags_16))
 
 pub mend-objects-spec : {M : Type 1} → statement M
 mend-objects-spec =

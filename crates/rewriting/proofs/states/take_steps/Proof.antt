@@ -7,7 +7,7 @@ use borrow.Author.Rules.{rules}
 use borrow.Author.Tests.{not_true, not_false}
 use lib.ListN.{length, drop}
 use Rattle.rewriting.specs.Checking.{plan_test}
-use Rattle.rewriting.proofs.Steps.{test-pass, test-stop, test-end}
+use Rattle.rewriting.proofs.Steps.{test_pass, test_stop, test_end}
 use Rattle.rewriting.proofs.states.take_steps.Statement.{statement}
 use Rattle.rewriting.proofs.states.take_steps.Tie as tie
 
@@ -38,7 +38,7 @@ returns c =
     let t = c.before.before.before.take_step in
     let l = c.before.before.before.before.before.before.before.loop in
     let a = c.before.before.before.before.before.before.before.before.before.before.before.before.args in
-    sym (test-stop a.edition a.old.now a.new.now l.state a.steps.now l.i (omega arith) (sym t.ensures.0 ∙ not_true _ c.if1.true)) ∙ l.invariant.2
+    sym (test_stop a.edition a.old.now a.new.now l.state a.steps.now l.i (omega arith) (sym t.ensures.0 ∙ not_true _ c.if1.true)) ∙ l.invariant.2
 
 add-i : tie.Need-overflow-add-i invariant-loop decreases-loop
 add-i c = search rules
@@ -54,7 +54,7 @@ loop-again c =
       omega arith,
       omega (arith, t.auto.1.1.1.1.0, l.invariant.1),
       ap (λ (s : List ℕ). plan_test a.edition a.old.now a.new.now s (drop (l.i + 1) a.steps.now)) t.ensures.1
-          ∙ test-pass a.edition a.old.now a.new.now l.state a.steps.now l.i (omega arith) (sym t.ensures.0 ∙ not_false _ c.if1.false)
+          ∙ test_pass a.edition a.old.now a.new.now l.state a.steps.now l.i (omega arith) (sym t.ensures.0 ∙ not_false _ c.if1.false)
           ∙ l.invariant.2,
     )
 
@@ -68,7 +68,7 @@ returns-2 : tie.Need-returns-2 invariant-loop decreases-loop
 returns-2 c =
     let l = c.before.before.before.loop in
     let a = c.before.before.before.before.before.before.before.before.args in
-    c.is_same.ensures ∙ sym (test-end a.edition a.old.now a.new.now l.state a.steps.now l.i (omega arith)) ∙ l.invariant.2
+    c.is_same.ensures ∙ sym (test_end a.edition a.old.now a.new.now l.state a.steps.now l.i (omega arith)) ∙ l.invariant.2
 
 pub take-steps-spec : {M : Type 1} → statement M
 take-steps-spec =

@@ -43,7 +43,7 @@ use Rattle.lookup.specs.contracts.part_at as part_at_contract
 use Rattle.lookup.proofs.part_at.Symbol as part-at-def
 use Rattle.lookup.proofs.part_at.Symbol.{name as #lookup·part-at}
 use Rattle.lookup.proofs.part_at.Met as part-at-thm
-use Rattle.view.proofs.Held.{B, D, L, mach, image_val, table_val, is_t, image-out}
+use Rattle.view.proofs.Held.{B, D, L, mach, image_val, table_val, is_t, image_out}
 use Rattle.view.specs.contracts.View.part.Key.{name as #view·part}
 use Rattle.view.specs.contracts.View.part as part
 use Rattle.view.proofs.View.part.Statement as stated
@@ -100,7 +100,7 @@ module _ {M : Type 1} {𝓤 : Ura M} (𝓛 : Logic 𝓤) (mem : Memory → SProp
     apart : ent 𝓤 (on_entry 𝓛 part.signature (κ, tt) (q, tt) (d, (k, tt)) at) (sep 𝓤 ((PartAt 𝓛 mem run).pre to) (sem 𝓛 Owns))
     apart =
         qed 𝓛 ((‵ (flft κ q) ⊛ ‵ ftrue) ∷ ‵ Owns ∷ []) ∵
-        move ! (1 ∷ []) $ fsplit ! $ use1 𝓛 (‵ (Result.own d.image (image_val d ∷ [])) ⊛ ‵ ((B (κ, tt)).own d (mach κ d ∷ []))) (image-out 𝓛 κ d) $ split ! $ move ! (1 ∷ 2 ∷ []) $ fjoin ! $ move ! (1 ∷ []) $
+        move ! (1 ∷ []) $ fsplit ! $ use1 𝓛 (‵ (Result.own d.image (image_val d ∷ [])) ⊛ ‵ ((B (κ, tt)).own d (mach κ d ∷ []))) (image_out 𝓛 κ d) $ split ! $ move ! (1 ∷ 2 ∷ []) $ fjoin ! $ move ! (1 ∷ []) $
         -- [what image owns; what the parameters own; the token]
         nothing ! $ owned ! usize (Is usize) (uint_Makes 𝓛 w64) k _ (refl, ok) $ fjoin ! $
         owned ! Table.the_row (Is Table.the_row) (LL.makes Table.the_type Table'.the_plain 𝓛) d.table (table_val d ∷ []) (is_t κ d is) $ fjoin ! $ move ! (1 ∷ 0 ∷ []) $ fjoin ! $

@@ -5,7 +5,7 @@ use native.Mathlib.Omega.{arith}
 use borrow.Author.Tests.{ne_eqb}
 use borrow.Author.Rules.{rules}
 use lib.ListN.{length, drop}
-use Rattle.ground.proofs.Puts.{Left, left_start, left-next, left_end, put_there}
+use Rattle.ground.proofs.Puts.{Left, left_start, left_next, left_end, put_there}
 use Rattle.ground.proofs.Stores.{sets_whole}
 use Rattle.wire.specs.PlaceBytes.{paired, places_bytes, places_room}
 use Rattle.wire.proofs.Pairs.{paired_next, paired_end, places_room_lem}
@@ -59,7 +59,7 @@ loop-again c =
     let a : l.k < length t.starts = omega (arith, starts s) in
     let b : l.k < length t.lengths = omega (arith, lengths s) in
     let one = put_there put.put.ensures.0 put.put.ensures.1 (omega arith) in
-    (omega arith, omega arith, omega (arith, one.place), left-next l.invariant.3 _ _ (paired_next t.starts t.lengths l.k a b) one)
+    (omega arith, omega arith, omega (arith, one.place), left_next l.invariant.3 _ _ (paired_next t.starts t.lengths l.k a b) one)
 
 same_length : tie.Need-same-length invariant-loop decreases-loop
 same_length c = omega arith

@@ -9,7 +9,7 @@ use Rattle.card.specs.Content.{value_of, content_of, no_object}
 use Rattle.card.specs.Layout.{object, objects_of}
 use Rattle.ground.proofs.Pieces.{part_length}
 use Rattle.wire_records.specs.Records.{lent_record}
-use Rattle.wire_records.proofs.Parts.{lent-count}
+use Rattle.wire_records.proofs.Parts.{lent_count}
 use Rattle.object_sizes.proofs.Items.{from, from_next, from_end}
 use Rattle.object_sizes.proofs.Lent.{object_part}
 use Rattle.writer.proofs.Grown.{one_on}
@@ -75,7 +75,7 @@ loop-again c =
     let bs = s.args.bytes.now in
     let os = (lent_record bs).objects in
     let h : l.i < 16 = omega arith in
-    let step = from_next os l.i h (lent-count bs s.requires.0) _ t.tag_of.ensures in
+    let step = from_next os l.i h (lent_count bs s.requires.0) _ t.tag_of.ensures in
     let piece = object t.tag_of.result (value_of (get_or os l.i no_object)) in
     let long = ap length step ∙ length-append piece (from (l.i + 1) os) in
     let place = rw (object_part bs s.requires.0 l.i h) at w.write-object.ensures.0 in

@@ -6,10 +6,10 @@ use lib.ListN.{length, length-set}
 use Rattle.card.specs.Content.{content_of}
 use Rattle.card.specs.Layout.{objects_of}
 use Rattle.wire_records.specs.Records.{lent_record}
-use Rattle.wire_records.proofs.Parts.{lent-count}
+use Rattle.wire_records.proofs.Parts.{lent_count}
 use Rattle.object_sizes.specs.Sizes.{size_of}
 use Rattle.object_sizes.proofs.Sums.{objects_long, content_count}
-use Rattle.writer.proofs.Templates.{Begun, begun, templated, template-ends}
+use Rattle.writer.proofs.Templates.{Begun, begun, templated, template_ends}
 use borrow.Author.Rules.{rules}
 use Rattle.writer.proofs.template.write_template.Statement.{statement}
 use Rattle.writer.proofs.template.write_template.Tie as tie
@@ -25,7 +25,7 @@ sized : (z : tie.After-size-of) → z.type_size.result ≡ length (objects_of (c
 sized z =
     let s = z.before.before.before.before in
     let r = lent_record s.args.bytes.now in
-    z.type_size.ensures.1 ∙ ap size_of z.before.lengths-of.ensures ∙ sym (objects_long (content_of r) (content_count r (lent-count s.args.bytes.now s.requires.0.sized)))
+    z.type_size.ensures.1 ∙ ap size_of z.before.lengths-of.ensures ∙ sym (objects_long (content_of r) (content_count r (lent_count s.args.bytes.now s.requires.0.sized)))
 
 slice-write-room : tie.Need-slice-write-room
 slice-write-room c = omega (arith, c.before.before.before.before.requires.1)
@@ -108,7 +108,7 @@ returns c =
     let e = w.write-objects.ensures.0 in
     let m = behind w in
     let all = objects_of (content_of (lent_record s.args.bytes.now)) in (
-      template-ends all k e,
+      template_ends all k e,
       templated all k e s.args.room.now w.write-objects.new.0 c.checksum.result p.write-length.ensures.1 w.write-objects.ensures.1
           (omega (arith, k.start_is, k.most, s.requires.1)) (omega arith) c.checksum.ensures,
     )

@@ -49,13 +49,13 @@ alike_below_lem f g (suc n) t k h = go (eqb k n) refl (alike_below_lem f g n (an
 
 -- ---- the head of a list that passes a test
 module _ {A : Type 0} (f : A → Bool) (d : A) (xs : List A) (i : ℕ) where
-  pub leading-pass : i < length xs → f (get_or xs i d) ≡ true → i + leading f (drop i xs) ≡ i + 1 + leading f (drop (i + 1) xs)
+  pub leading_pass : i < length xs → f (get_or xs i d) ≡ true → i + leading f (drop i xs) ≡ i + 1 + leading f (drop (i + 1) xs)
   unfolding leading
-  leading-pass h t = rw (add-one, drop-cons xs i d, t) (omega arith)
+  leading_pass h t = rw (add-one, drop-cons xs i d, t) (omega arith)
 
-  pub leading-stop : i < length xs → f (get_or xs i d) ≡ false → i + leading f (drop i xs) ≡ i
+  pub leading_stop : i < length xs → f (get_or xs i d) ≡ false → i + leading f (drop i xs) ≡ i
   unfolding leading
-  leading-stop h t = rw (drop-cons xs i d, t) (omega arith)
+  leading_stop h t = rw (drop-cons xs i d, t) (omega arith)
 
   pub leading_end : i ≡ length xs → i + leading f (drop i xs) ≡ i
   unfolding leading
@@ -110,13 +110,13 @@ leading_wider f g (x ∷ xs) w h = go (f x) refl h (leading_wider f g xs w)
 
 -- ---- where two lists first differ
 module _ (xs ys : List ℕ) (i : ℕ) (h : i < length xs) (k : i < length ys) where
-  pub agree-pass : get_or xs i 0 ≡ get_or ys i 0 → i + agree (drop i xs) (drop i ys) ≡ i + 1 + agree (drop (i + 1) xs) (drop (i + 1) ys)
+  pub agree_pass : get_or xs i 0 ≡ get_or ys i 0 → i + agree (drop i xs) (drop i ys) ≡ i + 1 + agree (drop (i + 1) xs) (drop (i + 1) ys)
   unfolding agree
-  agree-pass e = simp (drop-cons xs i 0 h, drop-cons ys i 0 k, eq-eqb _ _ e, add-one) (omega arith)
+  agree_pass e = simp (drop-cons xs i 0 h, drop-cons ys i 0 k, eq-eqb _ _ e, add-one) (omega arith)
 
-  pub agree-stop : (get_or xs i 0 ≡ get_or ys i 0 → ⊥) → i + agree (drop i xs) (drop i ys) ≡ i
+  pub agree_stop : (get_or xs i 0 ≡ get_or ys i 0 → ⊥) → i + agree (drop i xs) (drop i ys) ≡ i
   unfolding agree
-  agree-stop e = simp (drop-cons xs i 0 h, drop-cons ys i 0 k, ne_eqb _ _ e) (omega arith)
+  agree_stop e = simp (drop-cons xs i 0 h, drop-cons ys i 0 k, ne_eqb _ _ e) (omega arith)
 
 pub agree_end : (xs ys : List ℕ) → agree (drop (length xs) xs) ys ≡ 0
 unfolding agree

@@ -23,8 +23,8 @@ module _ {A : Type 0} (f : List ℕ → A) (size : ℕ) (bs : List ℕ) (xs : Li
   pub stored_more : {x : A} → k < length xs → x ≡ f (take (k * size + size - k * size) (drop (k * size) bs)) → take (k + 1) (set xs k x) ≡ map f (pieces size (k + 1) bs)
   stored_more h e = rw (e, add-sub_cancel_left, add-one, take-suc-set, done, pieces_more) (sym (map-append f (pieces size k bs) _))
 
-  pub stored-all : k ≡ length xs → xs ≡ map f (pieces size k bs)
-  stored-all h = sym (take_all k xs (omega arith)) ∙ done
+  pub stored_all : k ≡ length xs → xs ≡ map f (pieces size k bs)
+  stored_all h = sym (take_all k xs (omega arith)) ∙ done
 
 -- what is left of the bytes from element k on: those of element k, then the rest
 pub joined_next : {A : Type 0} (f : A → List ℕ) (xs : List A) (k : ℕ) (d : A) → k < length xs → joined f (drop k xs) ≡ f (get_or xs k d) ++ joined f (drop (k + 1) xs)
