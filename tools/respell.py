@@ -22,6 +22,8 @@ LEMMAS = """length-field alike-below filler-last lent-edition bytes-at formed-fr
 numbers-put row-text object-bytes object-by look-by tags-of push-all places-by head-text field-behind on-field head-for places-room lent-record record-room table-room byte-at""".split()
 EXCEPT = {name: name.replace("-", "_") + "_lem" for name in LEMMAS}
 # The same for lemmas that are spelled with '_' already, in the crates that have both.
+# Names of the library, which some files define for themselves.
+LIBRARY = {"not-true", "not-false"}
 BESIDE = {
     "crates/card_text/proofs/": {"is_digit": "is_digit_lem"},
     "crates/example/proofs/": {"record_of": "record_of_lem"},
@@ -102,7 +104,7 @@ def spelled(turn, proof, m):
 def main():
     check = "--check" in sys.argv[1:]
     names = own_names()
-    turn = {n: EXCEPT.get(n, snake(n)) for n in names if n[0].islower() and EXCEPT.get(n, snake(n)) != n}
+    turn = {n: EXCEPT.get(n, snake(n)) for n in names - LIBRARY if n[0].islower() and EXCEPT.get(n, snake(n)) != n}
     paths = [p for e in ("rt", "antt", "edit") for p in glob.glob(f"crates/**/*.{e}", recursive=True)]
     bad = 0
     written = {}

@@ -8,7 +8,7 @@ use mathlib.Core.List.{List, [], ◌∷◌, ◌++◌, append_assoc}
 use lib.ListN.{length, take, drop, length-append, length-drop, take-append-drop}
 use lib.Seq.{take-append_seam, drop-append_seam, length-take-le}
 use lib.Dec.{leb, eqb}
-use borrow.Author.Tests.{eqb-true, eq-eqb, ne_eqb, le-leb, leb-true, not_true}
+use borrow.Author.Tests.{eqb-true, eq-eqb, ne_eqb, le-leb, leb-true, not-true}
 use Rattle.edition.specs.declared.Row.{Row}
 use Rattle.rules.specs.declared.Verdict.{Verdict}
 use Rattle.rules.specs.declared.Verdict.TheVariants.{Takes, Outside, Breaks}
@@ -102,7 +102,7 @@ present_is k r ts at b v rest w e = rw look_object (go (permitted r.row.lengths 
 
 distinct_head : (t : ℕ) (ts : List ℕ) → distinct (t ∷ ts) ≡ true → among t ts ≡ false
 unfolding distinct
-distinct_head t ts d = not_true (among t ts) (and_left (not (among t ts)) (distinct ts) d)
+distinct_head t ts d = not-true (among t ts) (and_left (not (among t ts)) (distinct ts) d)
 
 distinct_tail : (t : ℕ) (ts : List ℕ) → distinct (t ∷ ts) ≡ true → distinct ts ≡ true
 unfolding distinct

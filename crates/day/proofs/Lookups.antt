@@ -2,7 +2,7 @@
 use Prim.Native.Nat.{ℕ, ◌+◌, ◌-◌, ◌*◌, ◌/◌, ◌%◌, ◌≤◌, ◌<◌}
 use native.Mathlib.Omega.{arith}
 use native.Mathlib.Decide.{dec_le}
-use borrow.Author.Tests.{eqb-true, eqb-false, ltb-true, ltb-false, eq-eqb, ne_eqb, le-ltb, lt-ltb, not_false}
+use borrow.Author.Tests.{eqb-true, eqb-false, ltb-true, ltb-false, eq-eqb, ne_eqb, le-ltb, lt-ltb, not-false}
 use mathlib.Core.Path.{◌≡◌, refl, sym, ap, ap₂, ◌∙◌}
 use mathlib.Core.Bool.{Bool, true, false, cond, not, ◌&&◌}
 use mathlib.Core.List.{List, [], ◌∷◌, ◌++◌}
@@ -125,7 +125,7 @@ module _ (ns : List (List ℕ)) (q : List ℕ) where
   no-later v i w j e f t = in_turn i j (sym (below_behind (padded q) (two_bytes j) (two_bytes i)) ∙ rw (e, f) at t)
 
   other-not : (v : List ℕ) → other v ≡ false → padded v ≡ padded q
-  other-not v t = same_equal (padded v) (padded q) (not_false (same_list (padded v) (padded q)) t)
+  other-not v t = same_equal (padded v) (padded q) (not-false (same_list (padded v) (padded q)) t)
 
   not-other : (v : List ℕ) → padded v ≡ padded q → other v ≡ false
   not-other v e = rw (e, same_self (padded q))

@@ -2,7 +2,7 @@
 use Prim.Native.Nat.{ℕ, suc, ◌+◌, ◌-◌, ◌*◌, ◌/◌, ◌%◌, ◌≤◌, ◌<◌}
 use native.Mathlib.Omega.{arith}
 use native.Mathlib.Decide.{dec_le}
-use borrow.Author.Tests.{eq-eqb, not_false}
+use borrow.Author.Tests.{eq-eqb, not-false}
 use mathlib.Core.Path.{◌≡◌, refl, sym, ap, ap₂, ◌∙◌}
 use mathlib.Core.Bool.{Bool, true, false, cond, not}
 use mathlib.Core.List.{List, [], ◌∷◌, ◌++◌, append_assoc, append-nil}
@@ -196,7 +196,7 @@ module _ (file number : List ℕ) where
   has_first : first_with number (images_in file) < length (images_in file) → HasAt file number (first_with number (images_in file))
   unfolding first_with
   has_first h =
-      (h, same_equal (number_of (get_or (images_in file) (first_with number (images_in file)) [])) number (not_false _ (leading_at (λ x. not (has_number number x)) [] (images_in file) h)))
+      (h, same_equal (number_of (get_or (images_in file) (first_with number (images_in file)) [])) number (not-false _ (leading_at (λ x. not (has_number number x)) [] (images_in file) h)))
 
   pub finds_first : (find_refusal file number).number ≡ 0 → Lowest file number (find_answer file number).value
   unfolding find_answer answered

@@ -6,7 +6,7 @@ use mathlib.Core.Bool.{Bool, true, false, not, ◌&&◌}
 use mathlib.Core.List.{List, [], ◌∷◌}
 use lib.Dec.{eqb}
 use lib.ListN.{length, replicate, length-replicate}
-use borrow.Author.Tests.{eqb-true, le-ltb, ne_eqb, not_true}
+use borrow.Author.Tests.{eqb-true, le-ltb, ne_eqb, not-true}
 use Rattle.ground.specs.Lists.{leading, among}
 use Rattle.ground.proofs.Lists.{true_false, and_right, alike_below_lem}
 use Rattle.rules.specs.declared.Rule.{Rule}
@@ -126,7 +126,7 @@ will_some r n h some = rw (ne_eqb n 0 (omega arith)) at h
 
 pub will_none : (r : Row) → will_do r 0 ≡ true → r.required ≡ false
 unfolding will_do
-will_none r h = not_true r.required h
+will_none r h = not-true r.required h
 
 -- a value that meets a row has a length that will do
 pub met_will : (r : Row) (v : List ℕ) → RowMet r v → will_do r (length v) ≡ true

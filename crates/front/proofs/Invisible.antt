@@ -57,9 +57,9 @@ record Single (u : List ℕ) : Type 0 where
   text : is_text byte ≡ true
   plain : among 0x5F u ≡ false
 
-not_true : (q : Bool) → not q ≡ true → q ≡ false
-not_true true e = sym e
-not_true false e = refl
+not-true : (q : Bool) → not q ≡ true → q ≡ false
+not-true true e = sym e
+not-true false e = refl
 
 single : (u : List ℕ) → is_there (addition_sign u) ≡ true → Single u
 unfolding addition_sign is_text among
@@ -68,7 +68,7 @@ single (b ∷ []) t = record {
   byte = b;
   is = refl;
   text = sign_all is_text b refl refl refl t;
-  plain = not_true (among 0x5F (b ∷ [])) (sign_all (λ (x : ℕ). not (among 0x5F (x ∷ []))) b refl refl refl t);
+  plain = not-true (among 0x5F (b ∷ [])) (sign_all (λ (x : ℕ). not (among 0x5F (x ∷ []))) b refl refl refl t);
 }
 single (b ∷ d ∷ v) t = absurd (true_false t refl)
 

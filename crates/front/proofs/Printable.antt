@@ -78,9 +78,9 @@ clean_row c (j ∷ ks) k a u = go (eqb k j) refl (among 0x5F (value c j)) refl a
     go true e false m a u ih = rw (eqb-true k j e) m
     go false e false m a u ih = ih a u
 
-not_false : (q : Bool) → not q ≡ true → q ≡ false
-not_false true e = sym e
-not_false false e = refl
+not-false : (q : Bool) → not q ≡ true → q ≡ false
+not-false true e = sym e
+not-false false e = refl
 
 -- ---- fields and names of printable bytes
 blanks_shown : (n : ℕ) → all_of printable (replicate n 0x20) ≡ true
@@ -185,7 +185,7 @@ pub lines_28 : Lines28
 lines_28 fund c n z =
     let f = free fund c n z in
     let t = taken c f.own in
-    let clean = not_false (underscored c (printed_rows fund)) f.clean in
+    let clean = not-false (underscored c (printed_rows fund)) f.clean in
     let row : (k : ℕ) → k < 16 → among k (printed_rows fund) ≡ true → all_of printable (value c k) ≡ true =
     λ k h a. plain (value c k) (all-leading is_text (value c k) (t.text k h)) (clean_row c (printed_rows fund) k a clean) in
     record {

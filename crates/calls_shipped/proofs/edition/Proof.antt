@@ -2,7 +2,7 @@
 use mathlib.Core.Path.{refl, ap, ◌∙◌}
 use mathlib.Core.Bool.{◌||◌}
 use lib.Dec.{eqb}
-use borrow.Author.Tests.{eq-eqb, ne_eqb, not_true, not_false}
+use borrow.Author.Tests.{eq-eqb, ne_eqb, not-true, not-false}
 use Rattle.card.specs.Refusals.{gate}
 use Rattle.wire_tables.specs.Tables.{table_bytes}
 use Rattle.wire_tables.proofs.Sizes.{table_room_lem}
@@ -32,7 +32,7 @@ returns-2 : tie.Need-returns-2
 unfolding gate kvk_edition kvk_edition_room
 returns-2 c =
     let which = c.before.before.before.before.before.args.which in
-    rw (eq-eqb _ _ c.before.before.before.if1.false, not_true (eqb which 1 || eqb which 2) c.before.before.if2.true)
+    rw (eq-eqb _ _ c.before.before.before.if1.false, not-true (eqb which 1 || eqb which 2) c.before.before.if2.true)
     (c.pack2.ensures ∙ ap packed c.before.new2.ensures, refl)
 
 shipped-requires : tie.Need-shipped-requires
@@ -49,7 +49,7 @@ unfolding gate kvk_edition kvk_edition_room
 returns-3 c =
     let w = c.before.before in
     let which = w.before.before.before.before.before.before.args.which in
-    rw (eq-eqb _ _ w.before.before.before.before.if1.false, not_false (eqb which 1 || eqb which 2) w.before.before.before.if2.false)
+    rw (eq-eqb _ _ w.before.before.before.before.if1.false, not-false (eqb which 1 || eqb which 2) w.before.before.before.if2.false)
     (refl, w.write-table.ensures ∙ table_room_lem _ _ w.before.before.before.before.if1.false ∙ ap table_bytes w.before.before.shipped.ensures)
 
 pub edition-spec : {M : Type 1} → statement M

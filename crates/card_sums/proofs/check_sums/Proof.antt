@@ -1,6 +1,6 @@
 -- `card_sums::check_sums` meets its contract: the names first. Assumes nothing.
 use mathlib.Core.Path.{sym, ◌∙◌}
-use borrow.Author.Tests.{not_true, not_false}
+use borrow.Author.Tests.{not-true, not-false}
 use Rattle.card.specs.Refusals.{gate}
 use Rattle.card.specs.Rules.{names_fit, town_fits}
 use Rattle.card.specs.Sums.{sums_refusal}
@@ -35,7 +35,7 @@ refuse-group-requires c κs = search rules
 returns : tie.Need-returns
 unfolding sums_refusal names_fit town_fits gate
 returns c =
-    let names = sym c.before.before.names-fit.ensures ∙ not_true _ c.before.if1.true in
+    let names = sym c.before.before.names-fit.ensures ∙ not-true _ c.before.if1.true in
     rw names c.refuse-group.ensures
 
 array-read-town-fits : tie.Need-array-read-town-fits
@@ -65,8 +65,8 @@ refuse-group-requires-2 c κs = search rules
 returns-2 : tie.Need-returns-2
 unfolding sums_refusal names_fit town_fits gate
 returns-2 c =
-    let names = sym c.before.before.before.before.names-fit.ensures ∙ not_false _ c.before.before.before.if1.false in
-    let town = sym c.before.before.town-fits.ensures ∙ not_true _ c.before.if2.true in
+    let names = sym c.before.before.before.before.names-fit.ensures ∙ not-false _ c.before.before.before.if1.false in
+    let town = sym c.before.before.town-fits.ensures ∙ not-true _ c.before.if2.true in
     rw (names, town) c.refuse-group2.ensures
 
 none-requires : tie.Need-none-requires
@@ -75,8 +75,8 @@ none-requires c κs = search rules
 returns-3 : tie.Need-returns-3
 unfolding sums_refusal names_fit town_fits gate
 returns-3 c =
-    let names = sym c.before.before.before.before.names-fit.ensures ∙ not_false _ c.before.before.before.if1.false in
-    let town = sym c.before.before.town-fits.ensures ∙ not_false _ c.before.if2.false in
+    let names = sym c.before.before.before.before.names-fit.ensures ∙ not-false _ c.before.before.before.if1.false in
+    let town = sym c.before.before.town-fits.ensures ∙ not-false _ c.before.if2.false in
     rw (names, town) c.none.ensures
 
 pub check-sums-spec : {M : Type 1} → statement M

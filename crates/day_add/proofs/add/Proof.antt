@@ -4,7 +4,7 @@ use mathlib.Core.Bool.{true, false}
 use mathlib.Core.List.{List, ◌∷◌, [], ◌++◌}
 use Prim.Native.Nat.{ℕ, ◌+◌, ◌*◌, ◌≤◌}
 use native.Mathlib.Omega.{arith}
-use borrow.Author.Tests.{not_true, not_false}
+use borrow.Author.Tests.{not-true, not-false}
 use lib.ListN.{length, take, drop}
 use lib.Seq.{take-take}
 use Rattle.ground.specs.Pieces.{pieces}
@@ -43,7 +43,7 @@ few : (c : tie.Else1) → (counted c).count-in.result + 1 ≤ 200
 few c = omega (arith, (done c).few, (counted c).count-in.ensures)
 
 is-card : (c : tie.Else2) → is_card (start c.before.before.before).args.card.now ≡ true
-is-card c = sym (ap (λ (x : Card). x.accepted) c.before.before.card-at.ensures) ∙ not_false _ c.if2.false
+is-card c = sym (ap (λ (x : Card). x.accepted) c.before.before.card-at.ensures) ∙ not-false _ c.if2.false
 
 count-in-requires : tie.Need-count-in-requires
 count-in-requires c κs = search rules
@@ -90,7 +90,7 @@ returns-2 c =
     let a = (start e).args in
     let d = done e in
     let f = ap (λ (x : Refusal). x.number) n.new.ensures in
-    let no : is_card a.card.now ≡ false = sym (ap (λ (x : Card). x.accepted) k.card-at.ensures) ∙ not_true _ t.if2.true in
+    let no : is_card a.card.now ≡ false = sym (ap (λ (x : Card). x.accepted) k.card-at.ensures) ∙ not-true _ t.if2.true in
     let g = n.new.ensures ∙ ap (λ (m : ℕ). refuse 41 m 0) (counted e).count-in.ensures ∙ sym (add_card a.file.now a.card.now (length a.room.now) d.zero-file d.few d.room no) in
     let w = refused_add a.file.now a.card.now a.room.now n.new.result g (λ z. absurd (omega arith)) in
     (c.answer-of2.ensures ∙ w.0, w.1)

@@ -4,7 +4,7 @@ use mathlib.Core.Bool.{true}
 use mathlib.Core.List.{List}
 use Prim.Native.Nat.{ℕ, ◌+◌, ◌*◌, ◌≤◌}
 use native.Mathlib.Omega.{arith}
-use borrow.Author.Tests.{not_true, not_false}
+use borrow.Author.Tests.{not-true, not-false}
 use lib.ListN.{length, take}
 use lib.Seq.{length-take-le}
 use Rattle.card.specs.declared.Refusal.{Refusal}
@@ -22,7 +22,7 @@ abbrev file : tie.After-count-in → List ℕ
 file c = c.before.before.before.before.args.file.now
 
 fits-true : (c : tie.Else1) → fits c.before.before.before.args.file.now ≡ true
-fits-true c = sym c.before.is_framed.ensures ∙ not_false _ c.if1.false
+fits-true c = sym c.before.is_framed.ensures ∙ not-false _ c.if1.false
 
 fit : (c : tie.Else1) → Framed c.before.before.before.args.file.now
 fit c = framed _ (fits-true c)
@@ -60,7 +60,7 @@ new-requires c κs = search rules
 returns : tie.Need-returns
 returns c =
     let t = c.before in
-    c.new.ensures ∙ sym (file_unframed t.before.before.before.args.file.now (sym t.before.is_framed.ensures ∙ not_true _ t.if1.true))
+    c.new.ensures ∙ sym (file_unframed t.before.before.before.args.file.now (sym t.before.is_framed.ensures ∙ not-true _ t.if1.true))
 
 count-in-requires : tie.Need-count-in-requires
 count-in-requires c κs = search rules
@@ -124,7 +124,7 @@ returns-3 c =
     let g = b.before.before.before in
     let k = g.before.before.before in
     let z : (cards_refusal 0 (images_in (file k))).number ≡ 0 = sym (ap (λ (x : Refusal). x.number) (told g)) ∙ b.if2.false in
-    let w = ap₂ same_list (sym (index_lent (file k) k.count-in.result k.count-in.ensures)) (sym (index b)) ∙ sym i.is_same.ensures ∙ not_true _ c.before.if3.true in
+    let w = ap₂ same_list (sym (index_lent (file k) k.count-in.result k.count-in.ensures)) (sym (index b)) ∙ sym i.is_same.ensures ∙ not-true _ c.before.if3.true in
     c.new2.ensures ∙ sym (file_index (file k) (fits-true k.before) z w)
 
 none-requires : tie.Need-none-requires
@@ -137,7 +137,7 @@ returns-4 c =
     let g = b.before.before.before in
     let k = g.before.before.before in
     let z : (cards_refusal 0 (images_in (file k))).number ≡ 0 = sym (ap (λ (x : Refusal). x.number) (told g)) ∙ b.if2.false in
-    let w = ap₂ same_list (sym (index_lent (file k) k.count-in.result k.count-in.ensures)) (sym (index b)) ∙ sym i.is_same.ensures ∙ not_false _ c.before.if3.false in
+    let w = ap₂ same_list (sym (index_lent (file k) k.count-in.result k.count-in.ensures)) (sym (index b)) ∙ sym i.is_same.ensures ∙ not-false _ c.before.if3.false in
     c.none.ensures ∙ sym (file_opens (file k) (fits-true k.before) z w)
 
 pub check-spec : {M : Type 1} → statement M

@@ -4,7 +4,7 @@ use mathlib.Core.List.{List}
 use mathlib.Core.Bool.{true}
 use Prim.Native.Nat.{ℕ, ◌/◌}
 use native.Mathlib.Omega.{arith}
-use borrow.Author.Tests.{not_true, not_false}
+use borrow.Author.Tests.{not-true, not-false}
 use lib.ListN.{length}
 use Rattle.day.specs.Cards.{entry}
 use Rattle.day.specs.Index.{halved, told_at}
@@ -21,11 +21,11 @@ is-number-requires c κs = search rules
 returns : tie.Need-returns
 unfolding position_in
 returns c =
-    let n = sym c.before.is_number.ensures ∙ not_true _ c.if1.true in
+    let n = sym c.before.is_number.ensures ∙ not-true _ c.if1.true in
     rw n
 
 formed : (c : tie.Else1) → number_formed c.before.before.before.before.args.number.now ≡ true
-formed c = sym c.before.is_number.ensures ∙ not_false _ c.if1.false
+formed c = sym c.before.is_number.ensures ∙ not-false _ c.if1.false
 
 key-of-requires : tie.Need-key-of-requires
 key-of-requires c κs = number_most _ (formed c)

@@ -3,7 +3,7 @@ use mathlib.Core.Path.{sym, ap, ap₂, ◌∙◌}
 use mathlib.Core.List.{List}
 use Prim.Native.Nat.{ℕ, ◌+◌, ◌*◌, ◌/◌, ◌<◌}
 use native.Mathlib.Omega.{arith}
-use borrow.Author.Tests.{not_true, not_false}
+use borrow.Author.Tests.{not-true, not-false}
 use lib.ListN.{length, take}
 use lib.Seq.{length-take-le}
 use Rattle.ground.specs.Lists.{same_list}
@@ -48,7 +48,7 @@ returns-2 c =
     let n = length a.index.now / 14 in
     let h : a.k < n = omega arith in
     unlike a.key.now (entries_in a.index.now) n a.k (length_pieces 14 n a.index.now) h
-    (ap (λ (x : List ℕ). same_list x (take 12 a.key.now)) (sym (front_lent a.index.now n a.k h)) ∙ sym i.is_same.ensures ∙ not_true _ c.if2.true)
+    (ap (λ (x : List ℕ). same_list x (take 12 a.key.now)) (sym (front_lent a.index.now n a.k h)) ∙ sym i.is_same.ensures ∙ not-true _ c.if2.true)
 
 shared-slice-read-wide : tie.Need-shared-slice-read-wide
 shared-slice-read-wide c = search rules
@@ -82,7 +82,7 @@ returns-3 c =
     ap₂ (λ (x y : ℕ). x * 256 + y) w.wide.ensures.0 c.wide2.ensures.0
     ∙ position_lent a.index.now n a.k h
     ∙ like a.key.now (entries_in a.index.now) n a.k (length_pieces 14 n a.index.now) h
-    (ap (λ (x : List ℕ). same_list x (take 12 a.key.now)) (sym (front_lent a.index.now n a.k h)) ∙ sym i.is_same.ensures ∙ not_false _ e.if2.false)
+    (ap (λ (x : List ℕ). same_list x (take 12 a.key.now)) (sym (front_lent a.index.now n a.k h)) ∙ sym i.is_same.ensures ∙ not-false _ e.if2.false)
 
 pub told-at-spec : {M : Type 1} → statement M
 told-at-spec =

@@ -3,7 +3,7 @@ use Prim.Native.Nat.{◌≤◌}
 use native.Mathlib.Omega.{arith}
 use mathlib.Core.Path.{◌≡◌, sym, ◌∙◌}
 use mathlib.Core.Bool.{true}
-use borrow.Author.Tests.{not_true, not_false}
+use borrow.Author.Tests.{not-true, not-false}
 use borrow.Author.Rules.{rules}
 use Rattle.example.specs.Cards.{grouped, three_at}
 use Rattle.example.proofs.Grouped.{grouped_most}
@@ -23,10 +23,10 @@ returns : tie.Need-returns
 unfolding three_at
 returns c =
     let t = c.before.before in
-    rw (← t.before.is-grouped.ensures, not_true t.before.is-grouped.result t.if1.true, ← c.before.row_at.ensures) c.choose.ensures
+    rw (← t.before.is-grouped.ensures, not-true t.before.is-grouped.result t.if1.true, ← c.before.row_at.ensures) c.choose.ensures
 
 is-in : (s : tie.After-start-of) → grouped s.before.before.before.args.k ≡ true
-is-in s = sym s.before.before.is-grouped.ensures ∙ not_false s.before.before.is-grouped.result s.before.if1.false
+is-in s = sym s.before.before.is-grouped.ensures ∙ not-false s.before.before.is-grouped.result s.before.if1.false
 
 low : (s : tie.After-start-of) → s.start_of_lem.result ≤ 14
 low s = omega (arith, grouped_most s.before.before.before.args.k (is-in s), s.start_of_lem.ensures.1)

@@ -2,7 +2,7 @@
 use mathlib.Core.Path.{◌≡◌, sym, ◌∙◌}
 use mathlib.Core.Bool.{true}
 use native.Mathlib.Omega.{arith}
-use borrow.Author.Tests.{ne_eqb, not_true, not_false}
+use borrow.Author.Tests.{ne_eqb, not-true, not-false}
 use lib.ListN.{get_or}
 use Rattle.card.specs.Frame.{head_end}
 use Rattle.card.specs.Refusals.{gate}
@@ -25,7 +25,7 @@ new-requires c κs = search rules
 returns : tie.Need-returns
 unfolding front_refusal gate
 returns c =
-    let first = sym c.before.before.allows-first.ensures ∙ not_true _ c.before.if1.true in
+    let first = sym c.before.before.allows-first.ensures ∙ not-true _ c.before.if1.true in
     rw first c.new.ensures
 
 head-end-requires : tie.Need-head-end-requires
@@ -39,7 +39,7 @@ headed : (c : tie.After-head-end) → c.head-end.result ≡ head_end c.before.be
 headed c = c.head-end.ensures ∙ head_in_lem _ (omega arith)
 
 first_right : (c : tie.Else1) → first_allowed (get_or c.before.before.before.before.args.image.now 0 0) ≡ true
-first_right c = sym c.before.allows-first.ensures ∙ not_false _ c.if1.false
+first_right c = sym c.before.allows-first.ensures ∙ not-false _ c.if1.false
 
 returns-2 : tie.Need-returns-2
 unfolding front_refusal gate

@@ -1,7 +1,7 @@
 -- `fresher_weigh::weigh` meets its contract, by its tests in the order of the definition. Assumes nothing.
 use mathlib.Core.Path.{◌≡◌, ◌∙◌}
 use mathlib.Core.Bool.{true, false, ◌&&◌}
-use borrow.Author.Tests.{eq-eqb, ne_eqb, not_true, not_false}
+use borrow.Author.Tests.{eq-eqb, ne_eqb, not-true, not-false}
 use Rattle.card.specs.Refusals.{gate}
 use Rattle.fresher.specs.Comparing.{weighed}
 use borrow.Author.Rules.{rules}
@@ -35,7 +35,7 @@ returns-3 : tie.Need-returns-3
 unfolding weighed gate
 returns-3 c =
     let a = c.before.before.before.before.before.before.before.before.before.before.before.args in
-    let h : a.expiry && (a.a.dated && a.b.dated) ≡ false = not_true _ c.before.before.if3.true in
+    let h : a.expiry && (a.a.dated && a.b.dated) ≡ false = not-true _ c.before.before.if3.true in
     rw (eq-eqb _ _ c.before.before.before.before.before.before.before.before.if1.false, eq-eqb _ _ c.before.before.before.before.before.if2.false, h, ← c.before.new.ensures) c.refuse3.ensures
 
 compare-dates-requires : tie.Need-compare-dates-requires
@@ -45,7 +45,7 @@ returns-4 : tie.Need-returns-4
 unfolding weighed gate
 returns-4 c =
     let a = c.before.before.before.before.before.before.before.before.before.before.args in
-    let h : a.expiry && (a.a.dated && a.b.dated) ≡ true = not_false _ c.before.if3.false in
+    let h : a.expiry && (a.a.dated && a.b.dated) ≡ true = not-false _ c.before.if3.false in
     rw (eq-eqb _ _ c.before.before.before.before.before.before.before.if1.false, eq-eqb _ _ c.before.before.before.before.if2.false, h) c.compare-dates.ensures
 
 pub weigh-spec : {M : Type 1} → statement M

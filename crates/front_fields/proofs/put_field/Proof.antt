@@ -3,7 +3,7 @@ use mathlib.Core.Path.{sym, ◌∙◌}
 use Prim.Native.Nat.{◌+◌, ◌≤◌}
 use lib.ListN.{length}
 use native.Mathlib.Omega.{arith}
-use borrow.Author.Tests.{leb-true, leb-false, not_true, not_false}
+use borrow.Author.Tests.{leb-true, leb-false, not-true, not-false}
 use Rattle.front.proofs.Placed.{field_in, field_out, field_wide}
 use borrow.Author.Rules.{rules}
 use Rattle.front_fields.proofs.put_field.Statement.{statement}
@@ -16,11 +16,11 @@ has-places-requires : tie.Need-has-places-requires
 has-places-requires c κs = search rules
 
 returns-2 : tie.Need-returns-2
-returns-2 c = field_out _ _ _ _ (leb-false _ _ (sym c.before.has-places.ensures ∙ not_true _ c.if2.true))
+returns-2 c = field_out _ _ _ _ (leb-false _ _ (sym c.before.has-places.ensures ∙ not-true _ c.if2.true))
 
 -- the room has the places
 room_for : (c : tie.Else2) → c.before.before.before.before.args.at + c.before.before.before.before.args.places ≤ length c.before.before.before.before.args.room.now
-room_for c = leb-true _ _ (sym c.before.has-places.ensures ∙ not_false _ c.if2.false)
+room_for c = leb-true _ _ (sym c.before.has-places.ensures ∙ not-false _ c.if2.false)
 
 put-places-requires : tie.Need-put-places-requires
 put-places-requires c κs = (omega arith, room_for c.before)

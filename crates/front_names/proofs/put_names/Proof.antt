@@ -2,7 +2,7 @@
 use mathlib.Core.Path.{sym, ◌∙◌}
 use Prim.Native.Nat.{◌≤◌}
 use native.Mathlib.Omega.{arith}
-use borrow.Author.Tests.{leb-true, not_true, not_false}
+use borrow.Author.Tests.{leb-true, not-true, not-false}
 use lib.ListN.{length}
 use Rattle.card.specs.Content.{content_of}
 use Rattle.front.specs.Lines.{forenames}
@@ -34,12 +34,12 @@ held c =
 returns-2 : tie.Need-returns-2
 returns-2 c =
     let else = c.before.before in
-    names_out (content_of else.before.before.before.args.content) _ _ (held else) (sym c.before.has-places.ensures ∙ not_true _ c.if2.true)
+    names_out (content_of else.before.before.before.args.content) _ _ (held else) (sym c.before.has-places.ensures ∙ not-true _ c.if2.true)
 
 put-lines-requires : tie.Need-put-lines-requires
 put-lines-requires c κs =
     let right = c.before in
-    (held right.before.before, leb-true _ _ (sym right.before.has-places.ensures ∙ not_false _ right.if2.false))
+    (held right.before.before, leb-true _ _ (sym right.before.has-places.ensures ∙ not-false _ right.if2.false))
 
 same_length : tie.Need-same-length
 same_length c = search rules
@@ -49,7 +49,7 @@ returns-3 c =
     let put = c.before.before in
     let right = put.before.before in
     let else = right.before.before in
-    names_in (content_of else.before.before.before.args.content) (held else) (leb-true _ _ (sym right.before.has-places.ensures ∙ not_false _ right.if2.false)) put.put-lines.ensures
+    names_in (content_of else.before.before.before.args.content) (held else) (leb-true _ _ (sym right.before.has-places.ensures ∙ not-false _ right.if2.false)) put.put-lines.ensures
 
 pub put-names-spec : {M : Type 1} → statement M
 put-names-spec =

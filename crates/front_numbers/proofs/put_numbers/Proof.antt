@@ -1,7 +1,7 @@
 -- `front_numbers::put_numbers` meets its contract: two fields and what is behind them, or nothing. Assumes nothing.
 use mathlib.Core.Path.{sym, ◌∙◌}
 use Prim.Native.Nat.{◌+◌, ◌≤◌}
-use borrow.Author.Tests.{leb-true, not_true, not_false}
+use borrow.Author.Tests.{leb-true, not-true, not-false}
 use lib.ListN.{length}
 use Rattle.card.specs.Content.{content_of}
 use Rattle.front.proofs.Placed.{none_put, heads_there, numbers_long, numbers_there}
@@ -15,10 +15,10 @@ has-places-requires c κs = search rules
 returns : tie.Need-returns
 returns c =
     let s = c.before.before.before in
-    none_put _ _ _ 28 (sym c.before.has-places.ensures ∙ not_true _ c.if1.true) (numbers_long (content_of s.args.t3))
+    none_put _ _ _ 28 (sym c.before.has-places.ensures ∙ not-true _ c.if1.true) (numbers_long (content_of s.args.t3))
 
 room_for : (c : tie.Else1) → c.before.before.before.args.at + 28 ≤ length c.before.before.before.args.room.now
-room_for c = leb-true _ _ (sym c.before.has-places.ensures ∙ not_false _ c.if1.false)
+room_for c = leb-true _ _ (sym c.before.has-places.ensures ∙ not-false _ c.if1.false)
 
 element-copy-out-number : tie.Need-element-copy-out-number
 element-copy-out-number c = search rules

@@ -2,7 +2,7 @@
 use mathlib.Core.Path.{sym, ap, ◌∙◌}
 use Prim.Native.Nat.{ℕ, ◌+◌, ◌≤◌}
 use native.Mathlib.Omega.{arith}
-use borrow.Author.Tests.{leb-true, leb-false, not_true, not_false}
+use borrow.Author.Tests.{leb-true, leb-false, not-true, not-false}
 use lib.ListN.{length, replicate, length-replicate}
 use Rattle.ground.proofs.Puts.{put_out, put_in}
 use borrow.Author.Rules.{rules}
@@ -13,10 +13,10 @@ fits-requires : tie.Need-fits-requires
 fits-requires c κs = search rules
 
 returns : tie.Need-returns
-returns c = put_out _ _ _ (rw length-replicate (leb-false _ _ (sym c.before.fits2.ensures ∙ not_true _ c.if1.true)))
+returns c = put_out _ _ _ (rw length-replicate (leb-false _ _ (sym c.before.fits2.ensures ∙ not-true _ c.if1.true)))
 
 room_for : (c : tie.Else1) → c.before.before.before.args.at + c.before.before.before.args.count ≤ length c.before.before.before.args.room.now
-room_for c = leb-true _ _ (sym c.before.fits2.ensures ∙ not_false _ c.if1.false)
+room_for c = leb-true _ _ (sym c.before.fits2.ensures ∙ not-false _ c.if1.false)
 
 fill-run-requires : tie.Need-fill-run-requires
 fill-run-requires c κs = room_for c.before

@@ -4,7 +4,7 @@ use native.Mathlib.Omega.{arith}
 use borrow.Author.Rules.{rules}
 use lib.ListN.{length}
 use mathlib.Core.Path.{sym, ◌∙◌}
-use borrow.Author.Tests.{not_true, not_false}
+use borrow.Author.Tests.{not-true, not-false}
 use Rattle.letters.proofs.Spelt.{Spelling, spelling_start, spelling_next, spelling_end, spelling_full, at_end, without, was_put}
 use Rattle.ground.proofs.Puts.{put_there}
 use Rattle.letters_spelled.proofs.to_utf8.Statement.{statement}
@@ -31,7 +31,7 @@ same_length c = c.before.before.before.before.loop.invariant.same
 returns : tie.Need-returns invariant-loop decreases-loop
 returns c =
     let l = c.before.before.before.before.loop.invariant in
-    spelling_end l (without l c.before.before.before.loop-test.true (sym c.before.has-letter.ensures ∙ not_true _ c.if1.true))
+    spelling_end l (without l c.before.before.before.loop-test.true (sym c.before.has-letter.ensures ∙ not-true _ c.if1.true))
 
 put-letter-requires : tie.Need-put-letter-requires invariant-loop decreases-loop
 put-letter-requires c κs = search rules
@@ -44,7 +44,7 @@ returns-2 c =
     let l = c.before.before.before.before.before.before.before.before.before.loop.invariant in
     let more = c.before.before.before.before.before.before.before.before.loop-test.true in
     let put = c.before.before.before.put-letter.ensures in
-    let has = sym c.before.before.before.before.before.before.has-letter.ensures ∙ not_false _ c.before.before.before.before.before.if1.false in
+    let has = sym c.before.before.before.before.before.before.has-letter.ensures ∙ not-false _ c.before.before.before.before.before.if1.false in
     spelling_full l more has put.0 put.1 c.if2.true
 
 add-taken : tie.Need-overflow-add-taken invariant-loop decreases-loop
@@ -58,7 +58,7 @@ loop-again c =
     let l = c.before.before.before.before.before.before.before.before.before.loop.invariant in
     let more = c.before.before.before.before.before.before.before.before.loop-test.true in
     let put = c.before.before.before.put-letter.ensures in
-    let has = sym c.before.before.before.before.before.before.has-letter.ensures ∙ not_false _ c.before.before.before.before.before.if1.false in
+    let has = sym c.before.before.before.before.before.before.has-letter.ensures ∙ not-false _ c.before.before.before.before.before.if1.false in
     let fits = was_put _ _ _ put.0 c.if2.false in
     spelling_next l more has fits (put_there put.0 put.1 fits)
 

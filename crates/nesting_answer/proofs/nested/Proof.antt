@@ -2,7 +2,7 @@
 use mathlib.Core.Path.{◌≡◌, sym, ◌∙◌}
 use mathlib.Core.Bool.{true, false}
 use borrow.Author.Rules.{rules}
-use borrow.Author.Tests.{not_true, not_false}
+use borrow.Author.Tests.{not-true, not-false}
 use Rattle.edition.specs.Rows.{formed_of}
 use Rattle.nesting.specs.Decision.{is_well, nesting_of}
 use Rattle.nesting_answer.proofs.nested.Statement.{statement}
@@ -14,7 +14,7 @@ is-formed-requires c κs = search rules
 returns : tie.Need-returns
 unfolding nesting_of
 returns c =
-    let e : is_well (formed_of c.before.before.args.inner) ≡ false = sym c.before.is-formed.ensures ∙ not_true _ c.if1.true in
+    let e : is_well (formed_of c.before.before.args.inner) ≡ false = sym c.before.is-formed.ensures ∙ not-true _ c.if1.true in
     rw e
 
 is-formed-requires-2 : tie.Need-is-formed-requires-2
@@ -24,8 +24,8 @@ returns-2 : tie.Need-returns-2
 unfolding nesting_of
 returns-2 c =
     let b = c.before.before in
-    let e : is_well (formed_of b.before.before.args.inner) ≡ true = sym b.before.is-formed.ensures ∙ not_false _ b.if1.false in
-    let f : is_well (formed_of b.before.before.args.outer) ≡ false = sym c.before.is-formed2.ensures ∙ not_true _ c.if2.true in
+    let e : is_well (formed_of b.before.before.args.inner) ≡ true = sym b.before.is-formed.ensures ∙ not-false _ b.if1.false in
+    let f : is_well (formed_of b.before.before.args.outer) ≡ false = sym c.before.is-formed2.ensures ∙ not-true _ c.if2.true in
     rw (e, f)
 
 rows-nested-requires : tie.Need-rows-nested-requires
@@ -36,8 +36,8 @@ unfolding nesting_of
 returns-3 c =
     let a = c.before.before.before in
     let b = a.before.before in
-    let e : is_well (formed_of b.before.before.args.inner) ≡ true = sym b.before.is-formed.ensures ∙ not_false _ b.if1.false in
-    let f : is_well (formed_of b.before.before.args.outer) ≡ true = sym a.before.is-formed2.ensures ∙ not_false _ a.if2.false in
+    let e : is_well (formed_of b.before.before.args.inner) ≡ true = sym b.before.is-formed.ensures ∙ not-false _ b.if1.false in
+    let f : is_well (formed_of b.before.before.args.outer) ≡ true = sym a.before.is-formed2.ensures ∙ not-false _ a.if2.false in
     rw (e, f) c.rows-nested.ensures
 
 pub nested_spec : {M : Type 1} → statement M

@@ -2,7 +2,7 @@
 use mathlib.Core.Path.{◌≡◌, sym, ap, ◌∙◌}
 use Prim.Native.Nat.{ℕ, ◌+◌, ◌-◌, ◌≤◌}
 use native.Mathlib.Omega.{arith}
-use borrow.Author.Tests.{not_true, not_false}
+use borrow.Author.Tests.{not-true, not-false}
 use mathlib.Core.List.{List}
 use lib.ListN.{length, get_or, take, drop}
 use Rattle.rules.specs.declared.Verdict.{Verdict}
@@ -41,7 +41,7 @@ returns-2 : tie.Need-returns-2
 unfolding found_of
 returns-2 c =
     let a = c.before.before.before.before.before.before.before.args in
-    let out = sym c.before.before.permits.ensures ∙ not_true c.before.before.permits.result c.before.if2.true in
+    let out = sym c.before.before.permits.ensures ∙ not-true c.before.before.permits.result c.before.if2.true in
     rw c.tag-of2.ensures (ap (λ (x : Seen). found_told (found_of a.k a.place x)) (sym (found_unlisted a.kinds.now a.k a.place a.row a.part.now (omega arith) out)))
 
 cast-stop : tie.Need-overflow-cast-stop
@@ -57,7 +57,7 @@ returns-3 : tie.Need-returns-3
 unfolding found_of
 returns-3 c =
     let a = c.before.before.before.before.before.before.before.before.args in
-    let listed = sym c.before.before.before.permits.ensures ∙ not_false c.before.before.before.permits.result c.before.before.if2.false in
+    let listed = sym c.before.before.before.permits.ensures ∙ not-false c.before.before.before.permits.result c.before.before.if2.false in
     rw c.tag-of3.ensures
     (ap (λ (x : Seen). found_told (found_of a.k a.place x)) (sym (found_overlong a.kinds.now a.k a.place a.row a.part.now (omega arith) listed (omega arith))))
 
@@ -94,7 +94,7 @@ returns-4 c =
     let l = a.part.now in
     let n = get_or l 0 0 in
     let p = c.before.before.before.before.before in
-    let listed = sym p.permits.ensures ∙ not_false p.permits.result c.before.before.before.before.if2.false in
+    let listed = sym p.permits.ensures ∙ not-false p.permits.result c.before.before.before.before.if2.false in
     let one : 1 + n - 1 ≡ n = omega arith in
     let long : length (take n (drop 1 l)) ≡ n = rw one at c.before.before.judge-by-arg.given.2 in
     let verdict : c.before.judge-by.result ≡ judged_by a.kinds.now a.row.rule (take n (drop 1 l)) =

@@ -2,7 +2,7 @@
 use mathlib.Core.Path.{◌≡◌, sym, ◌∙◌}
 use Prim.Native.Nat.{◌+◌}
 use native.Mathlib.Omega.{arith}
-use borrow.Author.Tests.{ne_eqb, not_true, not_false}
+use borrow.Author.Tests.{ne_eqb, not-true, not-false}
 use lib.ListN.{length, drop, length-drop}
 use Rattle.card.specs.Refusals.{gate}
 use Rattle.frame.specs.Checks.{tail_from}
@@ -65,7 +65,7 @@ returns-2 : tie.Need-returns-2
 unfolding tail_at gate
 returns-2 c =
     let k = c.before.before.before.before.before.before in
-    let last = sym c.before.before.allows-last.ensures ∙ not_true _ c.before.if2.true in
+    let last = sym c.before.before.allows-last.ensures ∙ not-true _ c.before.if2.true in
     rw (← counted k, c.before.before.before.before.before.if1.false, last) c.refuse-tail2.ensures
 
 none-requires : tie.Need-none-requires
@@ -74,7 +74,7 @@ none-requires c κs = search rules
 returns-3 : tie.Need-returns-3
 unfolding tail_at gate
 returns-3 c =
-    let last = sym c.before.before.allows-last.ensures ∙ not_false _ c.before.if2.false in
+    let last = sym c.before.before.allows-last.ensures ∙ not-false _ c.before.if2.false in
     rw (← counted c.before.before.before.before.before.before, c.before.before.before.before.before.if1.false, last) c.none.ensures
 
 pub check-filler-spec : {M : Type 1} → statement M

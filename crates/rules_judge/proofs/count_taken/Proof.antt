@@ -4,7 +4,7 @@ use Prim.Native.Nat.{◌+◌, ◌-◌, ◌≤◌}
 use native.Mathlib.Nat.{zero-add}
 use native.Mathlib.Omega.{arith}
 use borrow.Author.Rules.{rules}
-use borrow.Author.Tests.{not_true, not_false}
+use borrow.Author.Tests.{not-true, not-false}
 use lib.ListN.{length, drop}
 use Rattle.rules_judge.specs.declared.Characters.{Characters}
 use Rattle.rules_judge.specs.Characters.{has_byte}
@@ -45,7 +45,7 @@ returns : tie.Need-returns invariant-loop decreases-loop
 returns c =
     let h = c.before.before.before.before in
     let f = has_byte h.before.characters-of.result in
-    sym (leading_stop f 0 h.before.before.before.args.v.now h.loop.i (omega arith) (sym c.before.has.ensures ∙ not_true _ c.if1.true)) ∙ h.loop.invariant.1 ∙ right h.before
+    sym (leading_stop f 0 h.before.before.before.args.v.now h.loop.i (omega arith) (sym c.before.has.ensures ∙ not-true _ c.if1.true)) ∙ h.loop.invariant.1 ∙ right h.before
 
 add-i : tie.Need-overflow-add-i invariant-loop decreases-loop
 add-i c = search rules
@@ -57,7 +57,7 @@ loop-again : tie.Need-loop-preserved invariant-loop decreases-loop
 loop-again c =
     let h = c.before.before.before.before in
     let f = has_byte h.before.characters-of.result in
-    (search rules, sym (leading_pass f 0 h.before.before.before.args.v.now h.loop.i (omega arith) (sym c.before.has.ensures ∙ not_false _ c.if1.false)) ∙ h.loop.invariant.1)
+    (search rules, sym (leading_pass f 0 h.before.before.before.args.v.now h.loop.i (omega arith) (sym c.before.has.ensures ∙ not-false _ c.if1.false)) ∙ h.loop.invariant.1)
 
 returns-2 : tie.Need-returns-2 invariant-loop decreases-loop
 returns-2 c =

@@ -3,7 +3,7 @@ use mathlib.Core.Path.{◌≡◌, refl, sym, ◌∙◌}
 use Prim.Native.Nat.{◌+◌, ◌-◌, ◌≤◌}
 use native.Mathlib.Omega.{arith}
 use lib.ListN.{length, drop}
-use borrow.Author.Tests.{not_true, not_false}
+use borrow.Author.Tests.{not-true, not-false}
 use Rattle.ground.specs.Lists.{leading}
 use Rattle.ground.proofs.Lists.{leading_pass, leading_stop}
 use Rattle.table_take.specs.Splitting.{is_kind}
@@ -30,7 +30,7 @@ returns : tie.Need-returns invariant-loop decreases-loop
 returns c =
     let at = c.before.before.before.before in
     let a = at.before.before.args in
-    (sym (leading_stop (is_kind a.kind) 0 a.text.now at.loop.i (omega arith) (sym c.before.is-kind.ensures ∙ not_true _ c.if1.true)) ∙ at.loop.invariant.2, (omega arith, omega arith))
+    (sym (leading_stop (is_kind a.kind) 0 a.text.now at.loop.i (omega arith) (sym c.before.is-kind.ensures ∙ not-true _ c.if1.true)) ∙ at.loop.invariant.2, (omega arith, omega arith))
 
 add-i : tie.Need-overflow-add-i invariant-loop decreases-loop
 add-i c = omega arith
@@ -42,7 +42,7 @@ loop-again : tie.Need-loop-preserved invariant-loop decreases-loop
 loop-again c =
     let at = c.before.before.before.before in
     let a = at.before.before.args in
-    (omega arith, omega arith, sym (leading_pass (is_kind a.kind) 0 a.text.now at.loop.i (omega arith) (sym c.before.is-kind.ensures ∙ not_false _ c.if1.false)) ∙ at.loop.invariant.2)
+    (omega arith, omega arith, sym (leading_pass (is_kind a.kind) 0 a.text.now at.loop.i (omega arith) (sym c.before.is-kind.ensures ∙ not-false _ c.if1.false)) ∙ at.loop.invariant.2)
 
 returns-2 : tie.Need-returns-2 invariant-loop decreases-loop
 returns-2 c =

@@ -3,7 +3,7 @@ use Prim.Native.Nat.{◌≤◌}
 use native.Mathlib.Omega.{arith}
 use mathlib.Core.Path.{◌≡◌, sym, ◌∙◌}
 use mathlib.Core.List.{List}
-use borrow.Author.Tests.{not_true, not_false}
+use borrow.Author.Tests.{not-true, not-false}
 use lib.ListN.{length, take, replicate}
 use lib.Seq.{length-take-le}
 use Rattle.ground.proofs.Puts.{put_stored}
@@ -65,7 +65,7 @@ returns c =
     let a = g.before.before.before.before.before.before.before.before.args in
     let d = g.before.before.before.glue-all in
     at_other a.words.now a.values.now a.room.now c.answer2.result (replicate 4100 0) d.new.1.1.0 g.glued.given.0.0 (glues g) d.ensures.bytes
-    (sym c.before.before.same-tree.ensures ∙ not_true c.before.before.same-tree.result c.before.if1.true) c.answer2.ensures
+    (sym c.before.before.same-tree.ensures ∙ not-true c.before.before.same-tree.result c.before.if1.true) c.answer2.ensures
 
 answer-requires-3 : tie.Need-answer-requires-3
 answer-requires-3 c κs = search rules
@@ -76,7 +76,7 @@ returns-2 c =
     let a = g.before.before.before.before.before.before.before.before.args in
     let d = g.before.before.before.glue-all in
     at_small a.words.now a.values.now a.room.now c.answer3.result (replicate 4100 0) d.new.1.1.0 g.glued.given.0.0 (glues g) d.ensures.bytes
-    (are_words g) (are-bytes g) (sym c.before.before.before.same-tree.ensures ∙ not_false c.before.before.before.same-tree.result c.before.before.if1.false) c.before.if2.true c.answer3.ensures
+    (are_words g) (are-bytes g) (sym c.before.before.before.same-tree.ensures ∙ not-false c.before.before.before.same-tree.result c.before.before.if1.false) c.before.if2.true c.answer3.ensures
 
 array-share-prefix-scratch-2 : tie.Need-array-share-prefix-scratch-2
 array-share-prefix-scratch-2 c = fit c.before.before.before.before.before.before
@@ -110,7 +110,7 @@ returns-4 c =
     let bytes : List _ = take n d.new.1.1.0 in
     let long = length-take-le n d.new.1.1.0 (fit g) in
     at_wrote a.words.now a.values.now a.room.now c.answer4.result (replicate 4100 0) d.new.1.1.0 n (glues g) d.ensures.bytes
-    (are_words g) (are-bytes g) (sym c.before.before.before.before.before.before.before.before.same-tree.ensures ∙ not_false c.before.before.before.before.before.before.before.before.same-tree.result c.before.before.before.before.before.before.before.if1.false) c.before.before.before.before.before.before.if2.false
+    (are_words g) (are-bytes g) (sym c.before.before.before.before.before.before.before.before.same-tree.ensures ∙ not-false c.before.before.before.before.before.before.before.before.same-tree.result c.before.before.before.before.before.before.before.if1.false) c.before.before.before.before.before.before.if2.false
     c.before.before.before.put.new.0 (put_stored a.room.now 0 bytes (omega (arith, long, c.before.before.before.before.before.before.if2.false)) c.before.before.before.put.ensures.1) c.answer4.ensures
 
 pub write-back-spec : {M : Type 1} → statement M

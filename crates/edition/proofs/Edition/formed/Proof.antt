@@ -5,7 +5,7 @@ use mathlib.Core.Bool.{Bool, true, false}
 use Prim.Native.Nat.{ℕ, ◌-◌, ◌≤◌, ◌<◌}
 use native.Mathlib.Omega.{arith}
 use borrow.Author.Rules.{rules}
-use borrow.Author.Tests.{not_true, not_false, ne_eqb}
+use borrow.Author.Tests.{not-true, not-false, ne_eqb}
 use lib.Dec.{eqb}
 use lib.ListN.{length, get_or, drop, length-map}
 use Rattle.edition.specs.declared.Row.{Row}
@@ -46,7 +46,7 @@ returns c =
     let s = c.before.before.before.before.before in
     let l = seventeen s in
     let h = c.before.before.before.before.loop in
-    let f = early h.i (get_or s.args.t1.rows h.i no_row) _ (omega arith) (sym c.before.object-formed.ensures ∙ not_true _ c.if1.true) in
+    let f = early h.i (get_or s.args.t1.rows h.i no_row) _ (omega arith) (sym c.before.object-formed.ensures ∙ not-true _ c.if1.true) in
     ap formed_told (sym (bad_formed _ h.i (sym h.invariant.1 ∙ formed_stop _ h.i (omega arith) f)))
 
 add-i : tie.Need-overflow-add-i invariant-loop decreases-loop
@@ -60,7 +60,7 @@ loop-again c =
     let s = c.before.before.before.before.before in
     let l = seventeen s in
     let h = c.before.before.before.before.loop in
-    let f = early h.i (get_or s.args.t1.rows h.i no_row) _ (omega arith) (sym c.before.object-formed.ensures ∙ not_false _ c.if1.false) in
+    let f = early h.i (get_or s.args.t1.rows h.i no_row) _ (omega arith) (sym c.before.object-formed.ensures ∙ not-false _ c.if1.false) in
     (search rules, formed_pass _ h.i (omega arith) f ∙ h.invariant.1)
 
 element-copy-out-last : tie.Need-element-copy-out-last invariant-loop decreases-loop
@@ -83,7 +83,7 @@ returns-2 c =
     let a = c.before.before in
     let s = a.before.before.before in
     let l = seventeen s in
-    ap formed_told (sym (bad_formed _ 16 (sym (due a) ∙ formed_stop s.args.t1.rows 16 (omega arith) (sym c.before.last-formed.ensures ∙ not_true _ c.if2.true))))
+    ap formed_told (sym (bad_formed _ 16 (sym (due a) ∙ formed_stop s.args.t1.rows 16 (omega arith) (sym c.before.last-formed.ensures ∙ not-true _ c.if2.true))))
 
 -- all rows are well formed
 rows-well : (c : tie.After-last-formed invariant-loop decreases-loop) →
@@ -96,10 +96,10 @@ rows-well c t =
     sym (due c.before) ∙ sym f ∙ formed_end s.args.t1.rows 17 (omega arith)
 
 returns-3 : tie.Need-returns-3 invariant-loop decreases-loop
-returns-3 c = ap formed_told (sym (unnumbered _ (rows-well c.before.before (not_false _ c.before.if2.false)) c.if3.true))
+returns-3 c = ap formed_told (sym (unnumbered _ (rows-well c.before.before (not-false _ c.before.if2.false)) c.if3.true))
 
 returns-4 : tie.Need-returns-4 invariant-loop decreases-loop
-returns-4 c = ap formed_told (sym (well_formed _ (rows-well c.before.before (not_false _ c.before.if2.false)) c.if3.false))
+returns-4 c = ap formed_told (sym (well_formed _ (rows-well c.before.before (not-false _ c.before.if2.false)) c.if3.false))
 
 pub formed-spec : {M : Type 1} → statement M
 formed-spec =

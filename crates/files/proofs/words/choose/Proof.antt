@@ -1,7 +1,7 @@
 -- `files::words::choose` meets its contract: its tests are those of the definition. Assumes nothing.
 use mathlib.Core.Path.{◌≡◌, refl, sym, ◌∙◌}
 use mathlib.Core.Bool.{true, false}
-use borrow.Author.Tests.{not_true, not_false}
+use borrow.Author.Tests.{not-true, not-false}
 use Rattle.ground.specs.Lists.{same_list}
 use Rattle.files.specs.Words.{terminal_word, chosen}
 use borrow.Author.Rules.{rules}
@@ -11,7 +11,7 @@ use Rattle.files.proofs.words.choose.Tie as tie
 returns : tie.Need-returns
 unfolding chosen
 returns c =
-    let none : c.before.before.args.given ≡ false = not_true _ c.if1.true in
+    let none : c.before.before.args.given ≡ false = not-true _ c.if1.true in
     rw none refl
 
 slice-aggregate-is-same : tie.Need-slice-aggregate-is-same
@@ -25,7 +25,7 @@ unfolding chosen
 returns-2 c =
     let s = c.before in
     let same : same_list s.before.before.before.before.args.word.now terminal_word ≡ true = sym s.is_same.ensures ∙ c.if2.true in
-    let some : s.before.before.before.before.args.given ≡ true = not_false _ s.before.before.if1.false in
+    let some : s.before.before.before.before.args.given ≡ true = not-false _ s.before.before.if1.false in
     rw (some, same) refl
 
 returns-3 : tie.Need-returns-3
@@ -33,7 +33,7 @@ unfolding chosen
 returns-3 c =
     let s = c.before in
     let other : same_list s.before.before.before.before.args.word.now terminal_word ≡ false = sym s.is_same.ensures ∙ c.if2.false in
-    let some : s.before.before.before.before.args.given ≡ true = not_false _ s.before.before.if1.false in
+    let some : s.before.before.before.before.args.given ≡ true = not-false _ s.before.before.if1.false in
     rw (some, other) refl
 
 pub choose_spec : {M : Type 1} → statement M

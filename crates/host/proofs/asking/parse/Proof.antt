@@ -1,7 +1,7 @@
 -- `host::asking::parse` meets its contract, by its tests in the order of the definition. Assumes nothing.
 use mathlib.Core.Path.{◌≡◌}
 use mathlib.Core.Bool.{true, false}
-use borrow.Author.Tests.{eq-eqb, ne_eqb, not_true, not_false}
+use borrow.Author.Tests.{eq-eqb, ne_eqb, not-true, not-false}
 use Rattle.card.specs.Refusals.{gate}
 use Rattle.host.specs.Hosting.{is_reading, offset_of, count_of}
 use Rattle.host.specs.Steps.{command_of}
@@ -44,7 +44,7 @@ returns-3 c =
     let e = c.before.before.before.before in
     let a = e.before.before.before.before.args in
     let count : count_of a.command.now ≡ 0 → ⊥ = e.if2.false in
-    let other : is_reading a.command.now ≡ false = not_true _ c.before.if3.true in
+    let other : is_reading a.command.now ≡ false = not-true _ c.before.if3.true in
     rw (eq-eqb _ _ e.before.before.if1.false, ne_eqb _ _ count, other) c.misfit3.ensures
 
 shared-slice-read-word : tie.Need-shared-slice-read-word
@@ -62,7 +62,7 @@ returns-4 c =
     let e = c.before.before.before.before.before.before in
     let a = e.before.before.before.before.args in
     let count : count_of a.command.now ≡ 0 → ⊥ = e.if2.false in
-    let reading : is_reading a.command.now ≡ true = not_false _ c.before.before.before.if3.false in
+    let reading : is_reading a.command.now ≡ true = not-false _ c.before.before.before.if3.false in
     let offset : c.word.result ≡ offset_of a.command.now = c.word.ensures in
     rw (offset, eq-eqb _ _ e.before.before.if1.false, ne_eqb _ _ count, reading)
 

@@ -4,7 +4,7 @@ use mathlib.Core.List.{List}
 use Prim.Native.Nat.{ℕ, ◌+◌, ◌-◌, ◌≤◌}
 use native.Mathlib.Omega.{arith}
 use borrow.Author.Rules.{rules}
-use borrow.Author.Tests.{not_true, not_false}
+use borrow.Author.Tests.{not-true, not-false}
 use lib.ListN.{length, drop}
 use Rattle.rewriting.specs.Checking.{plan_test}
 use Rattle.rewriting.proofs.Steps.{test_pass, test_stop, test_end}
@@ -38,7 +38,7 @@ returns c =
     let t = c.before.before.before.take_step in
     let l = c.before.before.before.before.before.before.before.loop in
     let a = c.before.before.before.before.before.before.before.before.before.before.before.before.args in
-    sym (test_stop a.edition a.old.now a.new.now l.state a.steps.now l.i (omega arith) (sym t.ensures.0 ∙ not_true _ c.if1.true)) ∙ l.invariant.2
+    sym (test_stop a.edition a.old.now a.new.now l.state a.steps.now l.i (omega arith) (sym t.ensures.0 ∙ not-true _ c.if1.true)) ∙ l.invariant.2
 
 add-i : tie.Need-overflow-add-i invariant-loop decreases-loop
 add-i c = search rules
@@ -54,7 +54,7 @@ loop-again c =
       omega arith,
       omega (arith, t.auto.1.1.1.1.0, l.invariant.1),
       ap (λ (s : List ℕ). plan_test a.edition a.old.now a.new.now s (drop (l.i + 1) a.steps.now)) t.ensures.1
-          ∙ test_pass a.edition a.old.now a.new.now l.state a.steps.now l.i (omega arith) (sym t.ensures.0 ∙ not_false _ c.if1.false)
+          ∙ test_pass a.edition a.old.now a.new.now l.state a.steps.now l.i (omega arith) (sym t.ensures.0 ∙ not-false _ c.if1.false)
           ∙ l.invariant.2,
     )
 
