@@ -8,25 +8,29 @@ use Rattle.ground.proofs.Puts.{put_out, put_in}
 use borrow.Author.Rules.{rules}
 use Rattle.ground_room.proofs.fill.Goals as goal
 
-room_for : (c : tie.Else1) → c.before.before.before.args.at + c.before.before.before.args.count ≤ length c.before.before.before.args.room.now
-room_for c = leb-true _ _ (sym c.before.fits2.ensures ∙ not-false _ c.if1.false)
-
--- OLD pub returns-then-not-fits : goal.returns-then-not-fits
--- OLD returns-then-not-fits c = record { value = (put_out _ _ _ (rw length-replicate (leb-false _ _ (sym c.fits2.ensures ∙ not-true _ c.if-not-fits.true)))).0; room_after = (put_out _ _ _ (rw length-replicate (leb-false _ _ (sym c.fits2.ensures ∙ not-true _ c.if-not-fits.true)))).1 }
+pub returns-then-not-fits : goal.returns-then-not-fits
+returns-then-not-fits c = record { value = (put_out _ _ _ (rw length-replicate (leb-false _ _ (sym c.fits.ensures ∙ c.if-not-fits.true)))).0; room_after = (put_out _ _ _ (rw length-replicate (leb-false _ _ (sym c.fits.ensures ∙ c.if-not-fits.true)))).1 }
 
 pub fill_run-requires : goal.fill_run-requires
-fill_run-requires c = room_for c
+fill_run-requires c =
+    let room_for : c.args.at + c.args.count ≤ length c.args.room.now =
+        leb-true _ _ (sym c.fits.ensures ∙ c.if-not-fits.false) in
+    room_for
 
 pub overflow_add-result : goal.overflow_add-result
-overflow_add-result c = omega (arith, room_for c, c)
+overflow_add-result c =
+    let room_for : c.args.at + c.args.count ≤ length c.args.room.now =
+        leb-true _ _ (sym c.fits.ensures ∙ c.if-not-fits.false) in
+    omega (arith, room_for, c)
 
 -- OLD pub shape_of-room : goal.shape_of-room
 -- OLD shape_of-room c = c.fill_run.auto.0
 
--- OLD pub returns : goal.returns
--- OLD returns c =
--- OLD     let a = c.args in
--- OLD     let n = length-replicate {A = ℕ} a.count a.byte in
--- OLD     let p = put_in a.room.now a.at (replicate a.count a.byte) (rw n (room_for e)) in
--- OLD     record { value = ap (λ (m : ℕ). a.at + m) (sym n) ∙ p.0; room_after = c.fill_run.ensures ∙ p.1 }
-
+pub returns : goal.returns
+returns c =
+    let room_for : c.args.at + c.args.count ≤ length c.args.room.now =
+        leb-true _ _ (sym c.fits.ensures ∙ c.if-not-fits.false) in
+    let a = c.args in
+    let n = length-replicate {A = ℕ} a.count a.byte in
+    let p = put_in a.room.now a.at (replicate a.count a.byte) (rw n (room_for)) in
+    record { value = ap (λ (m : ℕ). a.at + m) (sym n) ∙ p.0; room_after = c.fill_run.ensures ∙ p.1 }
