@@ -19,6 +19,9 @@ use std::{io, str};
 pub use streams::{Source, print_decimal, read_full, write_all};
 pub use words::{choose, edition_named};
 
+// Linux's number of the error that a name is too long.
+const TOO_LONG: i32 = 36;
+
 // The name of a file as text, which it has to be.
 fn name_of(path: &[u8]) -> io::Result<&str> {
     match str::from_utf8(path) {
@@ -45,12 +48,39 @@ pub fn open<R: Outside>(rt: &R, path: &[u8]) -> Option<Source<R::Reader, R::File
     }
 }
 
+// Writes a file by way of one that is made beside it, whose name has 7 bytes more.
+fn write_beside<R: Outside>(rt: &R, path: &[u8], bytes: &[u8]) -> io::Result<()> {
+    let mut room = [0u8; 4096];
+    let start = ground_room::put(&mut room, 0, path);
+    let end = ground_room::put(&mut room, start, b".XXXXXX");
+    if end != path.len() + 7 {
+        return Err(Error::from_raw_os_error(TOO_LONG));
+    }
+    if end > 4096 {
+        return Err(Error::from_raw_os_error(TOO_LONG));
+    }
+    write_new(rt, &mut room[..end], path, bytes)
+}
+
+// Makes a file by a name of its own, writes it, and gives it its name when all of it is on its device.
+fn write_new<R: Outside>(rt: &R, name: &mut [u8], path: &[u8], bytes: &[u8]) -> io::Result<()> {
+    let file = beside::make_new(rt, name)?;
+    let written = match beside::fill(file, bytes) {
+        Ok(()) => beside::rename(rt, name, path),
+        Err(error) => Err(error),
+    };
+    if written.is_err() {
+        let _ = beside::remove(rt, name);
+    }
+    written
+}
+
 // Writes a file all or nothing, and answers whether it stands.
 pub fn write<R: Outside>(rt: &R, path: &[u8], bytes: &[u8]) -> bool {
     let written = if ground_parts::is_same(path, b"-") {
         rt.write_all(bytes)
     } else {
-        beside::write_beside(rt, path, bytes)
+        write_beside(rt, path, bytes)
     };
     match written {
         Ok(()) => true,

@@ -1,7 +1,6 @@
 // Bytes from a file or from standard input, and to one of the streams that are written.
 // A read or write that fails ends what is read or written: how much was read is told, and whether all was written.
 ghost use Rattle.std.specs.Prelude.{◌≡◌, ◌≤◌, length, take};
-ghost use Rattle.std.specs.Io.{ReadsAtMost};
 
 use std::io::{Read, Result};
 
