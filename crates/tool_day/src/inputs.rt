@@ -1,7 +1,7 @@
 // Files and numbers that words of the command line name.
-// Opens the file that word i names, if it can be.
 use files::{Outside, Source};
 
+// Opens the file that word i names, if it can be.
 pub(crate) fn open_at<R: Outside>(rt: &R, i: usize) -> Option<Source<R::Reader, R::File>> {
     let mut path = [0u8; 4096];
     let length = files::arg(rt, i, &mut path);
