@@ -74,13 +74,8 @@ pub returns-in-16 : goal.returns-in-16
 unfolding tags
 returns-in-16 c = rw c.in-16.is
 
--- OLD pub returns-in_default : goal.returns-in_default
--- OLD unfolding tags
--- OLD returns-in_default c =
--- OLD     let r = c.in_default.rest in
--- OLD     let x = c.args.row in
--- OLD     let past-6 : 6 ≤ x = omega (arith, r.0.0.0.0.0.0.0.0.0.0.0.0.0.0.0.0.1, r.0.0.0.0.0.0.0.0.0.0.0.0.0.0.0.1, r.0.0.0.0.0.0.0.0.0.0.0.0.0.0.1, r.0.0.0.0.0.0.0.0.0.0.0.0.0.1, r.0.0.0.0.0.0.0.0.0.0.0.0.1, r.0.0.0.0.0.0.0.0.0.0.0.1) in
--- OLD     let past-12 : 12 ≤ x = omega (arith, past-6, r.0.0.0.0.0.0.0.0.0.0.1, r.0.0.0.0.0.0.0.0.0.1, r.0.0.0.0.0.0.0.0.1, r.0.0.0.0.0.0.0.1, r.0.0.0.0.0.0.1, r.0.0.0.0.0.1) in
--- OLD     let past-17 : 17 ≤ x = omega (arith, past-12, r.0.0.0.0.1, r.0.0.0.1, r.0.0.1, r.0.1, r.1) in
--- OLD     sym (get_or-eq_default tags 0 past-17)
-
+pub returns-in_default : goal.returns-in_default
+unfolding tags
+returns-in_default c =
+    let past-17 : 17 ≤ c.args.row = omega arith in
+    sym (get_or-eq_default tags 0 past-17)

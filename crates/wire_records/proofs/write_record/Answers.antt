@@ -1,0 +1,36 @@
+-- `records::write_record` meets its contract: the ends, the objects behind them and the number fill the room. Assumes nothing.
+use mathlib.Core.Path.{◌≡◌, sym, ap, ◌∙◌}
+use mathlib.Core.List.{List, [], ◌∷◌, ◌++◌, append_assoc}
+use Prim.Native.Nat.{ℕ}
+use native.Mathlib.Omega.{arith}
+use borrow.Author.Tests.{ne_eqb}
+use lib.ListN.{length, length-append, length-map}
+use Rattle.ground.specs.Pieces.{joined}
+use Rattle.ground.proofs.Puts.{put_there, put_then}
+use Rattle.ground.proofs.Stores.{sets_whole}
+use Rattle.wire_records.specs.Records.{lent_record, object_bytes, record_bytes, record_room}
+use Rattle.wire_records.proofs.Sizes.{record_room_lem}
+use Rattle.wire_records.proofs.RecordsBack.{Whole, each_held, record_lent}
+use Rattle.wire_records.proofs.write_record.Goals as goal
+
+pub returns-then-room-ne479 : goal.returns-then-room-ne479
+unfolding record_room
+returns-then-room-ne479 c = record { room_after = rw (ne_eqb _ 479 c.if-room-ne479.true); room_after_2 = λ n. absurd (c.if-room-ne479.true n) }
+
+-- OLD pub returns : goal.returns
+-- OLD unfolding record_bytes
+-- OLD returns c =
+-- OLD     let sixteen : length c.args.content.objects ≡ 16 = omega arith in
+-- OLD     let r = c.args.content in
+-- OLD     let at = c.put_ends-start.ensures.value in
+-- OLD     let end = c.put_objects-end.ensures.value.0 in
+-- OLD     let number = put_there c.put_byte.ensures.value c.put_byte.ensures.room_after (omega (arith, at, end)) in
+-- OLD     let all = put_then c.put_ends-start.ensures.put (put_then c.put_objects-end.ensures.put number) in
+-- OLD     let rest = joined object_bytes r.objects ++ (r.number ∷ []) in
+-- OLD     let full = sets_whole c.args.room.now ((r.first ∷ (r.free ++ (r.last ∷ []))) ++ rest) (omega (arith, all.place, at, end, number.place)) in
+-- OLD     let whole = ap (λ (l : List ℕ). r.first ∷ l) (append_assoc r.free (r.last ∷ []) rest) in
+-- OLD     let free : length r.free ≡ 12 = omega (arith, at, c.put_ends-start.ensures.put.place, length-append r.free (r.last ∷ [])) in
+-- OLD     let held : Whole r = record { free_bytes = free; object_count = sixteen; object_bytes_lem = each_held r.objects (λ j h. c.put_objects-end.ensures.value.1 j (omega (arith, sixteen))) } in
+-- OLD     let is = all.stored ∙ full ∙ whole in
+-- OLD     record { room_after = is ∙ sym (record_room_lem r _ (omega arith)); room_after_2 = λ n. ap lent_record is ∙ record_lent r held }
+
