@@ -36,3 +36,23 @@ returns c =
     let a = c.args in
     let out = sym c.is_here.ensures ∙ c.if-is_here.false in
     meets_absent a.kinds.now a.k a.place a.row (drop (suc a.k) tags) a.part.now out c.if-row.false
+
+pub returns-in-Object : goal.returns-in-Object
+returns-in-Object c =
+    let a = c.args in
+    let w = c.in-Object in
+    let l = a.part.now in
+    let tagged : here a.k l ≡ true = sym c.is_here.ensures ∙ c.if-is_here.true in
+    let found = answer_is a.kinds.now a.k a.place a.row (drop 1 l) _ _ (part_left 1 l) c.read_object.ensures ∙ w.is in
+    meets_there a.kinds.now a.k a.place a.row (drop (suc a.k) tags) l _ _ tagged
+    (took a.kinds.now a.k a.place a.row (drop 1 l) _ w.row w.start w.length (stands a.kinds.now a.k a.place a.row (drop 1 l)) found)
+
+pub returns-in-Refused : goal.returns-in-Refused
+returns-in-Refused c =
+    let a = c.args in
+    let w = c.in-Refused in
+    let l = a.part.now in
+    let tagged : here a.k l ≡ true = sym c.is_here.ensures ∙ c.if-is_here.true in
+    let found = answer_is a.kinds.now a.k a.place a.row (drop 1 l) _ _ (part_left 1 l) c.read_object.ensures ∙ w.is in
+    let off = told_off a.kinds.now a.k a.place a.row (drop 1 l) _ w.number w.place w.tag (stands a.kinds.now a.k a.place a.row (drop 1 l)) found in
+    ap Wrong c.refuse.ensures ∙ meets_wrong a.kinds.now a.k a.place a.row (drop (suc a.k) tags) l _ tagged off.0

@@ -1,7 +1,7 @@
 -- What an iteration puts, and how the loop ends.
 use Rattle.std.proofs.Common.{arith}
 use Rattle.ground.proofs.Runs.{part_to_end}
-use Rattle.tree_back.proofs.Sofar.{Sofar, sofar_none, sofar_more, sofar_few, sofar_no, sofar_left, sofar_end}
+use Rattle.tree_back.proofs.Sofar.{sofar_more, sofar_few, sofar_no, sofar_left, sofar_end}
 use Rattle.tree_write.proofs.glue_all.Goals as goal
 
 pub returns-then-words-i-lt4 : goal.returns-then-words-i-lt4
@@ -16,7 +16,7 @@ overflow_add-q c =
     let l = c.loop-i in
     let o = c.put_object-step in
     let w = sofar_more a.words.now a.values.now a.out.now l.out l.i l.p l.q l.invariant (omega arith) o.new.out c.in-Put.size c.in-Put.count
-        (rw (part_to_end l.q a.values.now) at c.in-Put.ensures.value) (rw (part_to_end l.q a.values.now) at c.in-Put.ensures.out_after) o.auto.out in
+    (rw (part_to_end l.q a.values.now) at c.in-Put.ensures.value) (rw (part_to_end l.q a.values.now) at c.in-Put.ensures.out_after) o.auto.out in
     omega (arith, w.values)
 
 pub overflow_add-p : goal.overflow_add-p
@@ -25,7 +25,7 @@ overflow_add-p c =
     let l = c.loop-i in
     let o = c.put_object-step in
     let w = sofar_more a.words.now a.values.now a.out.now l.out l.i l.p l.q l.invariant (omega arith) o.new.out c.in-Put.size c.in-Put.count
-        (rw (part_to_end l.q a.values.now) at c.in-Put.ensures.value) (rw (part_to_end l.q a.values.now) at c.in-Put.ensures.out_after) o.auto.out in
+    (rw (part_to_end l.q a.values.now) at c.in-Put.ensures.value) (rw (part_to_end l.q a.values.now) at c.in-Put.ensures.out_after) o.auto.out in
     omega (arith, w.room)
 
 pub loop-i-preserved : goal.loop-i-preserved

@@ -71,7 +71,7 @@ overflow_sub-result c =
     let f = c.put_length-start in
     let v = c.put-end in
     let w = placed a.out.now a.p a.tag a.n c.value_size-size.result a.values.now f.new.room v.new.room f.result v.result (omega arith) (omega arith)
-        f.ensures.value f.ensures.room_after f.auto.room v.ensures.value v.ensures.room_after in
+    f.ensures.value f.ensures.room_after f.auto.room v.ensures.value v.ensures.room_after in
     omega (arith, w.behind_tag.place, w.behind_field.place)
 
 pub returns-clause-value : goal.returns-clause-value
@@ -80,7 +80,7 @@ returns-clause-value c =
     let f = c.put_length-start in
     let v = c.put-end in
     let w = placed a.out.now a.p a.tag a.n c.value_size-size.result a.values.now f.new.room v.new.room f.result v.result (omega arith) (omega arith)
-        f.ensures.value f.ensures.room_after f.auto.room v.ensures.value v.ensures.room_after in
+    f.ensures.value f.ensures.room_after f.auto.room v.ensures.value v.ensures.room_after in
     (put (length a.out.now) a.p a.tag a.n a.values.now a.out.now f.new.room v.new.room c.value_size-size.result f.result v.result
     c.value_size-size.ensures c.if-tag-gt255.false c.if-values-size.false c.if-out-p.false w.behind_tag w.behind_field).0
 
@@ -90,6 +90,6 @@ returns-clause-out_after c =
     let f = c.put_length-start in
     let v = c.put-end in
     let w = placed a.out.now a.p a.tag a.n c.value_size-size.result a.values.now f.new.room v.new.room f.result v.result (omega arith) (omega arith)
-        f.ensures.value f.ensures.room_after f.auto.room v.ensures.value v.ensures.room_after in
+    f.ensures.value f.ensures.room_after f.auto.room v.ensures.value v.ensures.room_after in
     (put (length a.out.now) a.p a.tag a.n a.values.now a.out.now f.new.room v.new.room c.value_size-size.result f.result v.result
     c.value_size-size.ensures c.if-tag-gt255.false c.if-values-size.false c.if-out-p.false w.behind_tag w.behind_field).1

@@ -1,10 +1,9 @@
--- `records::put_objects` meets its contract. The invariant: what is left to put, from object k on, makes the whole. Assumes no_object.
+-- `records::put_objects` meets its contract. The invariant: what is left to put, from object k on, makes the whole. Assumes nothing.
 use mathlib.Core.Path.{◌≡◌, refl}
-use Prim.Native.Nat.{ℕ, ◌+◌, ◌-◌, ◌*◌, ◌≤◌, ◌<◌}
+use Prim.Native.Nat.{◌<◌}
 use native.Mathlib.Omega.{arith}
-use lib.ListN.{length, get_or, drop, length-map}
-use Rattle.ground.specs.Pieces.{joined}
-use Rattle.ground.proofs.Puts.{Left, left_start, left_next, left_end}
+use lib.ListN.{length}
+use Rattle.ground.proofs.Puts.{left_start, left_next, left_end}
 use Rattle.ground.proofs.Pieces.{joined_next, joined_end}
 use Rattle.card.specs.Content.{no_object}
 use Rattle.wire_records.proofs.RecordsBack.{held_more}
@@ -27,11 +26,10 @@ loop-k-preserved c =
       held_more os l.k (omega (arith, c.put_object-place.ensures.put.place, c.put_object-place.ensures.value)) l.invariant.4,
     )
 
--- OLD pub returns : goal.returns
--- OLD returns c =
--- OLD     let sixteen : length c.args.content.objects ≡ 16 = omega arith in
--- OLD     let l = c.loop-k in
--- OLD     let os = c.args.content.objects in
--- OLD     let e : l.k ≡ 16 = omega arith in
--- OLD     (left_end l.invariant.3 (joined_end object_bytes os l.k (omega (arith, sixteen))), (omega arith, λ j h. l.invariant.4 j (omega arith)))
-
+pub returns : goal.returns
+returns c =
+    let sixteen : length c.args.content.objects ≡ 16 = omega arith in
+    let l = c.loop-k in
+    let os = c.args.content.objects in
+    let e : l.k ≡ 16 = omega arith in
+    record { put = left_end l.invariant.3 (joined_end object_bytes os l.k (omega (arith, sixteen))); value = omega arith; by_index = λ j h. l.invariant.4 j (omega arith) }

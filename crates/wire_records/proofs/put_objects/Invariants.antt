@@ -1,13 +1,10 @@
--- `records::put_objects` meets its contract. The invariant: what is left to put, from object k on, makes the whole. Assumes no_object.
-use mathlib.Core.Path.{◌≡◌, refl}
+-- `records::put_objects` meets its contract. The invariant: what is left to put, from object k on, makes the whole. Assumes nothing.
+use mathlib.Core.Path.{◌≡◌}
 use Prim.Native.Nat.{ℕ, ◌+◌, ◌-◌, ◌*◌, ◌≤◌, ◌<◌}
-use native.Mathlib.Omega.{arith}
-use lib.ListN.{length, get_or, drop, length-map}
+use lib.ListN.{length, get_or, drop}
 use Rattle.ground.specs.Pieces.{joined}
-use Rattle.ground.proofs.Puts.{Left, left_start, left_next, left_end}
-use Rattle.ground.proofs.Pieces.{joined_next, joined_end}
+use Rattle.ground.proofs.Puts.{Left}
 use Rattle.card.specs.Content.{no_object}
-use Rattle.wire_records.proofs.RecordsBack.{held_more}
 use Rattle.wire_records.specs.Records.{object_bytes}
 use Rattle.wire_records.proofs.put_objects.Given as goal
 
