@@ -50,6 +50,8 @@ unfolding entries
 all_length [] rs [] l a = refl
 all_length (t ∷ ts) [] vs l a = absurd (omega arith)
 all_length (t ∷ ts) (r ∷ rs) (v ∷ vs) l (one_more m a) = ap suc (all_length ts rs vs (omega arith) a)
+all_length [] rs (v ∷ vs) l a = elim a [ ]
+all_length (t ∷ ts) (r ∷ rs) [] l a = elim a [ ]
 
 objects_16 : length object_tags ≡ 16
 unfolding tags

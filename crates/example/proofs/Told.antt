@@ -55,6 +55,8 @@ apart_at k j c (i ∷ is) (o ∷ os) (later w a) = go (apart_at (suc k) j c is o
   where
     go : (m : ℕ) × (j ≡ suc k + m) × At is os m c → (m : ℕ) × (j ≡ k + m) × At (i ∷ is) (o ∷ os) m c
     go (m, e, t) = (suc m, omega arith, record { fails = t.fails; there = omega (arith, t.there) })
+apart_at k j c [] os x' = elim x' [ ]
+apart_at k j c (i ∷ is) [] x3 = elim x3 [ ]
 
 -- both editions are well formed, and the clause told fails of the row told
 pub record Told (i o : Edition) (n : Nesting) : Type 0 where
@@ -79,6 +81,8 @@ met_at (t ∷ ts) [] [] k a h = absurd (not-suc-le-zero h)
 met_at (t ∷ ts) (r ∷ rs) [] k a h = absurd (not-suc-le-zero h)
 met_at (t ∷ ts) (r ∷ rs) (v ∷ vs) zero (one_more m a) h = m
 met_at (t ∷ ts) (r ∷ rs) (v ∷ vs) (suc k) (one_more m a) h = met_at ts rs vs k a (le_of_suc-le-suc h)
+met_at [] rs (v ∷ vs) k a h = elim a [ ]
+met_at (t ∷ ts) [] (v ∷ vs) k a h = elim a [ ]
 
 -- ---- the rows of the inner, the one told narrowed
 pub row_told : (is os : List Row) (n : Nesting) → n.row < length is → get_or (rows_for is os n) n.row no_row ≡ narrow n.clause (get_or is n.row no_row) (get_or os n.row no_row)

@@ -1,5 +1,5 @@
 -- What stands in a room behind a listing.
-use Rattle.std.specs.Prelude.{ℕ, ◌+◌, ◌≤◌, ◌≡◌, cond, List, map, leb, length, take}
+use Rattle.std.specs.Prelude.{ℕ, ◌≤◌, ◌≡◌, cond, List, map, leb, length, take}
 use Rattle.std.proofs.lemmas.List.Edits.{sets}
 use Rattle.edition.specs.declared.Edition.{Edition}
 use Rattle.card.specs.declared.Object.{Object}

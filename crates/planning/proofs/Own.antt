@@ -13,10 +13,10 @@ use borrow.Author.Tests.{eqb-true, eqb-false, eq-eqb, ltb-true, le-leb}
 use Rattle.edition.specs.declared.Edition.{Edition}
 use Rattle.demands.specs.Demands.{LentEdition}
 use Rattle.rewriting.specs.Plans.{step_to, address_of, byte_of, step, MayBe}
-use Rattle.rewriting.specs.Checking.{passes, plan_test}
+use Rattle.rewriting.specs.Checking.{plan_test}
 use Rattle.rewriting.proofs.Refused.{untagged}
 use Rattle.rewriting.proofs.Decided.{is_same, passes_out}
-use Rattle.planning.specs.Planning.{change, changes, spoiled, rewritten, our_plan}
+use Rattle.planning.specs.Planning.{change, changes, rewritten, our_plan}
 use Rattle.planning.proofs.Changes.{none_same}
 
 -- what the type says of lent bytes

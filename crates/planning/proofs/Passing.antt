@@ -1,13 +1,13 @@
 -- Of the answers: our own plans always pass the check, and the plug can be pulled after any of their steps. Assumes nothing.
 use Prim.Native.Nat.{ℕ, ◌+◌, ◌≤◌}
 use native.Mathlib.Omega.{arith}
-use borrow.Author.Tests.{eqb-true, eqb-false, ne_eqb}
+use borrow.Author.Tests.{eqb-true, ne_eqb}
 use mathlib.Core.Path.{◌≡◌, refl, ap, ◌∙◌}
 use mathlib.Core.Bool.{Bool, true, false}
 use mathlib.Core.List.{List}
 use lib.Dec.{eqb}
 use lib.ListN.{length, take, drop}
-use lib.Seq.{sets, sets-eq, take_at}
+use lib.Seq.{sets-eq, take_at}
 use Rattle.ground.specs.Rooms.{Put}
 use Rattle.edition.specs.declared.Edition.{Edition}
 use Rattle.card.specs.declared.Refusal.{Refusal}

@@ -91,7 +91,7 @@ returns-2 c =
     let d = done e in
     let f = ap (λ (x : Refusal). x.number) n.new.ensures in
     let no : is_card a.card.now ≡ false = sym (ap (λ (x : Card). x.accepted) k.card-at.ensures) ∙ not-true _ t.if2.true in
-    let g = n.new.ensures ∙ ap (λ (m : ℕ). refuse 41 m 0) (counted e).count-in.ensures ∙ sym (add_card a.file.now a.card.now (length a.room.now) d.zero-file d.few d.room no) in
+    let g = n.new.ensures ∙ ap (λ (m : ℕ). refuse 41 m 0) (counted e).count-in.ensures ∙ sym (add_card a.file.now a.card.now (length a.room.now) d.zero_file d.few d.room no) in
     let w = refused_add a.file.now a.card.now a.room.now n.new.result g (λ z. absurd (omega arith)) in
     (c.answer-of2.ensures ∙ w.0, w.1)
 
@@ -101,7 +101,7 @@ put-added-requires c κs =
     let e = b.before.before.before in
     let d = done e in
     let n = (counted e).count-in.ensures in
-    (omega (arith, d.few), omega (arith, (opened _ d.zero-file).frame.size), card_size _ (is-card b), omega (arith, d.room))
+    (omega (arith, d.few), omega (arith, (opened _ d.zero_file).frame.size), card_size _ (is-card b), omega (arith, d.room))
 
 none-requires : tie.Need-none-requires
 none-requires c κs = search rules
@@ -133,10 +133,10 @@ returns-3 c =
     let s = a.file.now in
     let m = (counted e).count-in.result in
     let h = (counted e).count-in.ensures in
-    let x = n.none.ensures ∙ sym (add_none s a.card.now (length a.room.now) d.zero-file d.few d.room (is-card b)) in
+    let x = n.none.ensures ∙ sym (add_none s a.card.now (length a.room.now) d.zero_file d.few d.room (is-card b)) in
     let part = take (m * 14) (drop (m * 256) s) in
     let index : take (m * 14) part ≡ index_bytes (images_in s) =
-    take-take (m * 14) (m * 14) (drop (m * 256) s) (omega arith) ∙ ap (λ (i : ℕ). take (i * 14) (drop (i * 256) s)) h ∙ (opened s d.zero-file).index in
+    take-take (m * 14) (m * 14) (drop (m * 256) s) (omega arith) ∙ ap (λ (i : ℕ). take (i * 14) (drop (i * 256) s)) h ∙ (opened s d.zero_file).index in
     let g = put_next (images_in s) a.card.now part m k.card-at.result.entry (length_images s ∙ sym h) index (ap (λ (y : Card). y.entry) k.card-at.ensures) in
     let w = written_add s a.card.now a.room.now n.none.result m (flat (insert k.card-at.result.entry (pieces 14 m part))) x (ap (λ (y : Refusal). y.number) n.none.ensures) h g in
     (c.answer-of3.ensures ∙ w.0, p.put-added.ensures ∙ w.1)

@@ -3,9 +3,6 @@ use Rattle.ground.specs.Rooms.{hex}
 use borrow.Author.Rules.{rules}
 use Rattle.ground_digits.proofs.put_hex.Goals as goal
 
--- OLD pub shape_of-room : goal.shape_of-room
--- OLD shape_of-room c = c.put.auto.0
-
 pub returns : goal.returns
 unfolding hex
 returns c =

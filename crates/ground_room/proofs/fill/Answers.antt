@@ -14,22 +14,19 @@ returns-then-not-fits c = record { value = (put_out _ _ _ (rw length-replicate (
 pub fill_run-requires : goal.fill_run-requires
 fill_run-requires c =
     let room_for : c.args.at + c.args.count ≤ length c.args.room.now =
-        leb-true _ _ (sym c.fits.ensures ∙ c.if-not-fits.false) in
+    leb-true _ _ (sym c.fits.ensures ∙ c.if-not-fits.false) in
     room_for
 
 pub overflow_add-result : goal.overflow_add-result
 overflow_add-result c =
     let room_for : c.args.at + c.args.count ≤ length c.args.room.now =
-        leb-true _ _ (sym c.fits.ensures ∙ c.if-not-fits.false) in
+    leb-true _ _ (sym c.fits.ensures ∙ c.if-not-fits.false) in
     omega (arith, room_for, c)
-
--- OLD pub shape_of-room : goal.shape_of-room
--- OLD shape_of-room c = c.fill_run.auto.0
 
 pub returns : goal.returns
 returns c =
     let room_for : c.args.at + c.args.count ≤ length c.args.room.now =
-        leb-true _ _ (sym c.fits.ensures ∙ c.if-not-fits.false) in
+    leb-true _ _ (sym c.fits.ensures ∙ c.if-not-fits.false) in
     let a = c.args in
     let n = length-replicate {A = ℕ} a.count a.byte in
     let p = put_in a.room.now a.at (replicate a.count a.byte) (rw n (room_for)) in

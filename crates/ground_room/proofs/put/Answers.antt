@@ -14,22 +14,19 @@ returns-then-not-fits c = record { value = (put_out _ _ _ (leb-false _ _ (sym c.
 pub copy-requires : goal.copy-requires
 copy-requires c =
     let room_for : c.args.at + length c.args.source.now ≤ length c.args.room.now =
-        leb-true _ _ (sym c.fits.ensures ∙ c.if-not-fits.false) in
+    leb-true _ _ (sym c.fits.ensures ∙ c.if-not-fits.false) in
     room_for
 
 pub overflow_add-result : goal.overflow_add-result
 overflow_add-result c =
     let room_for : c.args.at + length c.args.source.now ≤ length c.args.room.now =
-        leb-true _ _ (sym c.fits.ensures ∙ c.if-not-fits.false) in
+    leb-true _ _ (sym c.fits.ensures ∙ c.if-not-fits.false) in
     omega (arith, room_for, c)
-
--- OLD pub shape_of-room : goal.shape_of-room
--- OLD shape_of-room c = c.copy.auto.0
 
 pub returns : goal.returns
 returns c =
     let room_for : c.args.at + length c.args.source.now ≤ length c.args.room.now =
-        leb-true _ _ (sym c.fits.ensures ∙ c.if-not-fits.false) in
+    leb-true _ _ (sym c.fits.ensures ∙ c.if-not-fits.false) in
     let a = c.args in
     let p = put_in a.room.now a.at a.source.now (room_for) in
     record { value = p.0; room_after = c.copy.ensures ∙ p.1 }

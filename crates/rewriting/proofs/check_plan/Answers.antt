@@ -18,11 +18,11 @@ returns-then-steps-gt257 c =
     let r = c.refuse_input-refusal in
     checked_many a.edition a.old.now a.new.now a.steps.now r.result r.ensures c.if-refusal-ne0.false c.if-steps-gt257.true c.new.result c.new.ensures
 
--- OLD pub run-requires : goal.run-requires
--- OLD run-requires c =
--- OLD     let a = c.args in
--- OLD     let r = c.refuse_input-refusal in
--- OLD     (input_in a.edition a.old.now a.new.now (sym (ap (λ (x : Refusal). x.number) r.ensures) ∙ c.if-refusal-ne0.false)).old-size
+pub run-requires : goal.run-requires
+run-requires c =
+    let a = c.args in
+    let r = c.refuse_input-refusal in
+    (input_in a.edition a.old.now a.new.now (sym (ap (λ (x : Refusal). x.number) r.ensures) ∙ c.if-refusal-ne0.false)).old_size
 
 pub returns : goal.returns
 returns c =

@@ -20,8 +20,8 @@ loop-i-init c = (search rules, zero-add _)
 pub returns-then-not-has : goal.returns-then-not-has
 returns-then-not-has c =
     let right : let a = c.args in leading (has_byte c.characters_of-characters.result) a.v.now ≡ leading (takes a.rule) a.v.now =
-        let a = c.args in
-        ap (λ (x : Characters). leading (has_byte x) a.v.now) c.characters_of-characters.ensures ∙ leading_bits a.rule a.v.now (λ k l. omega (arith, c.type_inv.v k)) in
+    let a = c.args in
+    ap (λ (x : Characters). leading (has_byte x) a.v.now) c.characters_of-characters.ensures ∙ leading_bits a.rule a.v.now (λ k l. omega (arith, c.type_inv.v k)) in
     let f = has_byte c.characters_of-characters.result in
     sym (leading_stop f 0 c.args.v.now c.loop-i.i (omega arith) (sym c.has.ensures ∙ c.if-not-has.true)) ∙ c.loop-i.invariant.1 ∙ right
 
@@ -33,7 +33,7 @@ loop-i-preserved c =
 pub returns : goal.returns
 returns c =
     let right : let a = c.args in leading (has_byte c.characters_of-characters.result) a.v.now ≡ leading (takes a.rule) a.v.now =
-        let a = c.args in
-        ap (λ (x : Characters). leading (has_byte x) a.v.now) c.characters_of-characters.ensures ∙ leading_bits a.rule a.v.now (λ k l. omega (arith, c.type_inv.v k)) in
+    let a = c.args in
+    ap (λ (x : Characters). leading (has_byte x) a.v.now) c.characters_of-characters.ensures ∙ leading_bits a.rule a.v.now (λ k l. omega (arith, c.type_inv.v k)) in
     let f = has_byte c.characters_of-characters.result in
     sym (leading_end f 0 c.args.v.now c.loop-i.i (omega arith)) ∙ c.loop-i.invariant.1 ∙ right

@@ -32,14 +32,14 @@ refused-requires-2 c κs = search rules
 
 returns-4 : tie.Need-returns-4
 unfolding with_line
-returns-4 c = rw (eq-eqb _ 0 c.before.before.before.before.before.before.before.before.if1.false, sym c.before.before.before.before.before.before.before.is-remark.ensures ∙ c.before.before.before.before.before.before.if2.false, le-ltb 17 _ c.before.before.before.before.if3.false, ← c.before.before.before.line_Taken.ensures, ne_eqb _ 0 c.before.if4.true) c.refused2.ensures
+returns-4 c = rw (eq-eqb _ 0 c.before.before.before.before.before.before.before.before.if1.false, sym c.before.before.before.before.before.before.before.is-remark.ensures ∙ c.before.before.before.before.before.before.if2.false, le-ltb 17 _ c.before.before.before.before.if3.false, ← c.before.before.before.line_taken.ensures, ne_eqb _ 0 c.before.if4.true) c.refused2.ensures
 
 stored-requires : tie.Need-stored-requires
 stored-requires c κs = search rules
 
 returns-5 : tie.Need-returns-5
 unfolding with_line
-returns-5 c = rw (eq-eqb _ 0 c.before.before.before.before.before.before.before.before.if1.false, sym c.before.before.before.before.before.before.before.is-remark.ensures ∙ c.before.before.before.before.before.before.if2.false, le-ltb 17 _ c.before.before.before.before.if3.false, ← c.before.before.before.line_Taken.ensures, eq-eqb _ 0 c.before.if4.false) c.stored.ensures
+returns-5 c = rw (eq-eqb _ 0 c.before.before.before.before.before.before.before.before.if1.false, sym c.before.before.before.before.before.before.before.is-remark.ensures ∙ c.before.before.before.before.before.before.if2.false, le-ltb 17 _ c.before.before.before.before.if3.false, ← c.before.before.before.line_taken.ensures, eq-eqb _ 0 c.before.if4.false) c.stored.ensures
 
 pub with-line-spec : {M : Type 1} → statement M
 with-line-spec =

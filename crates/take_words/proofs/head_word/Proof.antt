@@ -16,7 +16,7 @@ marked-requires c κs = search rules
 
 returns : tie.Need-returns
 unfolding head_word
-returns c = rw (eq-eqb _ 0 c.before.before.before.if1.true, ← c.before.before.is_IsWord.ensures, ← c.before.fault.ensures) c.marked.ensures
+returns c = rw (eq-eqb _ 0 c.before.before.before.if1.true, ← c.before.before.is_word.ensures, ← c.before.fault.ensures) c.marked.ensures
 
 marked-requires-2 : tie.Need-marked-requires-2
 marked-requires-2 c κs = search rules

@@ -29,7 +29,7 @@ marked-requires-2 c κs = search rules
 
 returns-2 : tie.Need-returns-2
 unfolding row_word
-returns-2 c = rw (c.before.before.before.if2.true, ← c.before.before.is_IsWord.ensures, ← c.before.fault2.ensures) c.marked2.ensures
+returns-2 c = rw (c.before.before.before.if2.true, ← c.before.before.is_word.ensures, ← c.before.fault2.ensures) c.marked2.ensures
 
 with-presence-requires : tie.Need-with-presence-requires
 with-presence-requires c κs = search rules

@@ -25,7 +25,7 @@ is-word-requires c κs = tt
 returns : tie.Need-returns invariant-loop decreases-loop
 returns c =
     let at = c.before.before.before in
-    (sym (found_stop at.before.before.args.word.now at.loop.n (omega arith) (sym c.before.is_IsWord.ensures ∙ c.if1.true)) ∙ at.loop.invariant.2, omega arith)
+    (sym (found_stop at.before.before.args.word.now at.loop.n (omega arith) (sym c.before.is_word.ensures ∙ c.if1.true)) ∙ at.loop.invariant.2, omega arith)
 
 add-n : tie.Need-overflow-add-n invariant-loop decreases-loop
 add-n c = omega arith
@@ -36,7 +36,7 @@ loop-less c = omega arith
 loop-again : tie.Need-loop-preserved invariant-loop decreases-loop
 loop-again c =
     let at = c.before.before.before in
-    (omega arith, omega arith, sym (found_next at.before.before.args.word.now at.loop.n (omega arith) (sym c.before.is_IsWord.ensures ∙ c.if1.false)) ∙ at.loop.invariant.2)
+    (omega arith, omega arith, sym (found_next at.before.before.args.word.now at.loop.n (omega arith) (sym c.before.is_word.ensures ∙ c.if1.false)) ∙ at.loop.invariant.2)
 
 returns-2 : tie.Need-returns-2 invariant-loop decreases-loop
 returns-2 c =

@@ -15,7 +15,7 @@ fault-requires c κs = search rules
 
 returns : tie.Need-returns
 unfolding with_presence
-returns c = rw (c.fault.ensures, c.before.is-word2.ensures, c.before.before.is_IsWord.ensures)
+returns c = rw (c.fault.ensures, c.before.is-word2.ensures, c.before.before.is_word.ensures)
 
 pub with-presence-spec : {M : Type 1} → statement M
 with-presence-spec =

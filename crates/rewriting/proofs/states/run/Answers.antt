@@ -1,5 +1,5 @@
 -- `rewriting::states::run` meets its contract: the state is a copy of the old image before the first step. Assumes nothing.
-use mathlib.Core.Path.{◌≡◌, ap, sym, ◌∙◌}
+use mathlib.Core.Path.{ap, ◌∙◌}
 use mathlib.Core.List.{List}
 use Prim.Native.Nat.{ℕ}
 use Rattle.ground.proofs.Puts.{put_whole}
