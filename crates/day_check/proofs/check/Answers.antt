@@ -1,10 +1,8 @@
 -- `day_check::check` meets its contract: 40, 41 and 42 in turn. Assumes nothing.
 use mathlib.Core.Path.{◌≡◌, sym, ap, ap₂, ◌∙◌}
 use mathlib.Core.Bool.{true}
-use mathlib.Core.List.{List}
 use Prim.Native.Nat.{ℕ, ◌+◌, ◌*◌, ◌≤◌}
 use native.Mathlib.Omega.{arith}
-use borrow.Author.Tests.{not-true, not-false}
 use lib.ListN.{length, take}
 use lib.Seq.{length-take-le}
 use Rattle.card.specs.declared.Refusal.{Refusal}
@@ -84,6 +82,14 @@ slice_bounds-is_same-start c =
     framed _ (fits-true) in
     let size : length c.args.file.now ≡ c.count_in-count.result * 270 + 8 =
     omega (arith, (fit).size, c.count_in-count.ensures) in
+    omega (arith, size)
+
+pub slice_bounds-is_same-end : goal.slice_bounds-is_same-end
+slice_bounds-is_same-end c =
+    let fits-true : fits c.args.file.now ≡ true =
+    sym c.is_framed.ensures ∙ c.if-not-is_framed.false in
+    let size : length c.args.file.now ≡ c.count_in-count.result * 270 + 8 =
+    omega (arith, (framed _ fits-true).size, c.count_in-count.ensures) in
     omega (arith, size)
 
 pub slice_bounds-index-end : goal.slice_bounds-index-end

@@ -1,0 +1,13 @@
+-- `text_records::byte_or`: by whether there is a line. Assumes nothing.
+use mathlib.Core.Path.{ap, ◌∙◌}
+use mathlib.Core.List.{List}
+use Prim.Native.Nat.{ℕ}
+use Rattle.card_text.specs.Hex.{byte_at}
+use Rattle.card_text.proofs.Told.{byte_other, byte_said}
+use Rattle.text_records.proofs.byte_or.Goals as goal
+
+pub returns-then-line_of-eq0 : goal.returns-then-line_of-eq0
+returns-then-line_of-eq0 c = byte_other _ _ _ _ c.line_of.ensures c.if-line_of-eq0.true
+
+pub returns : goal.returns
+returns c = c.byte_at.ensures ∙ ap (λ (v : List ℕ). byte_at v 0) c.value.ensures ∙ byte_said _ _ _ _ c.line_of.ensures c.if-line_of-eq0.false
