@@ -4,7 +4,6 @@ use native.Mathlib.Omega.{arith}
 use native.Mathlib.Decide.{dec_le}
 use borrow.Author.Tests.{le-leb, lt-leb, ne_eqb}
 use mathlib.Core.Path.{◌≡◌, refl}
-use mathlib.Core.List.{[], ◌∷◌}
 use lib.ListN.{length}
 use Rattle.lengths.specs.Lengths.{length_field}
 use Rattle.card.specs.Layout.{spaces, lasts}

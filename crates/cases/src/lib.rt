@@ -1,6 +1,7 @@
 // The parts of stored cases and of their answers, as `second/README.md` gives them.
 // Which call a case makes is for the crates that answer its kind, `cases_cards` and the others.
 // What cannot be read whole is no case: the program then writes END and stops.
+// A function that reads is lent the reader, one that writes the writer; where one of these fails, the answer is its error.
 #![tactic(auto)]
 
 mod lines;

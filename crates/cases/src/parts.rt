@@ -1,13 +1,18 @@
-// The parts of a case, as they are read from standard input. An answer false says that the part is cut off or malformed.
+// The parts of a case, as they are read from the input. An answer false says that the part is cut off or malformed.
 ghost use Rattle.std.specs.Prelude.{◌≡◌, ◌≤◌, length};
 
-use libc::STDIN_FILENO;
+use std::io;
+use std::io::Read;
 
 pub const LONGEST: usize = 600;
 
 // Fills all of a room from the input.
-pub fn get(room: &mut [u8]) -> bool {
-    io::read_full(STDIN_FILENO, room) == room.len()
+pub fn get<R: Read>(input: &mut R, room: &mut [u8]) -> io::Result<bool> {
+    match input.read_exact(room) {
+        Ok(()) => Ok(true),
+        Err(e) if e.kind() == io::ErrorKind::UnexpectedEof => Ok(false),
+        Err(e) => Err(e),
+    }
 }
 
 // Fills all of a room with one byte.
@@ -42,38 +47,38 @@ pub fn word_of(bytes: &[u8]) -> u32 {
 }
 
 // A length, or one more than LONGEST where there is none.
-pub fn get_length() -> usize {
+pub fn get_length<R: Read>(input: &mut R) -> io::Result<usize> {
     let mut bytes = [0u8; 2];
-    if !get(&mut bytes) {
-        return LONGEST + 1;
+    if !get(input, &mut bytes)? {
+        return Ok(LONGEST + 1);
     }
-    number_of(&bytes)
+    Ok(number_of(&bytes))
 }
 
 // A span into the head of a room: its length, or the largest number where there is none.
-pub fn get_span(room: &mut [u8]) -> usize {
-    let length = get_length();
+pub fn get_span<R: Read>(input: &mut R, room: &mut [u8]) -> io::Result<usize> {
+    let length = get_length(input)?;
     if length > room.len() {
-        return usize::MAX;
+        return Ok(usize::MAX);
     }
-    if get(&mut room[..length]) {
-        length
+    if get(input, &mut room[..length])? {
+        Ok(length)
     } else {
-        usize::MAX
+        Ok(usize::MAX)
     }
 }
 
 // The table of a shipped edition by its number, or after a 0 one that is written out.
-pub fn get_table(table: &mut [u8]) -> bool {
+pub fn get_table<R: Read>(input: &mut R, table: &mut [u8]) -> io::Result<bool> {
     let mut which = [0u8; 1];
-    if !get(&mut which) {
-        return false;
+    if !get(input, &mut which)? {
+        return Ok(false);
     }
     match which[0] {
-        0 => get(table),
-        1 => kvk::kvk_edition(1, table) == 0,
-        2 => kvk::kvk_edition(2, table) == 0,
-        _ => false,
+        0 => get(input, table),
+        1 => Ok(kvk::kvk_edition(1, table) == 0),
+        2 => Ok(kvk::kvk_edition(2, table) == 0),
+        _ => Ok(false),
     }
 }
 
@@ -86,49 +91,49 @@ pub(crate) fn value_size(slot: &[u8]) -> usize
 }
 
 // A length and its value, and one byte that stands for all behind it.
-fn get_slot(slot: &mut [u8]) -> bool
+fn get_slot<R: Read>(input: &mut R, slot: &mut [u8]) -> io::Result<bool>
     requires { length slot.old ≡ 29 }
 {
-    if !get(&mut slot[..1]) {
-        return false;
+    if !get(input, &mut slot[..1])? {
+        return Ok(false);
     }
     let end = 1 + value_size(slot);
-    if !get(&mut slot[1..end]) {
-        return false;
+    if !get(input, &mut slot[1..end])? {
+        return Ok(false);
     }
     if end == 29 {
-        return true;
+        return Ok(true);
     }
     let mut behind = [0u8; 1];
-    if !get(&mut behind) {
-        return false;
+    if !get(input, &mut behind)? {
+        return Ok(false);
     }
     fill(&mut slot[end..], behind[0]);
-    true
+    Ok(true)
 }
 
-fn get_slots(content: &mut [u8]) -> bool
+fn get_slots<R: Read>(input: &mut R, content: &mut [u8]) -> io::Result<bool>
     requires { length content.old ≡ 479 }
 {
-    if !get(&mut content[..14]) {
-        return false;
+    if !get(input, &mut content[..14])? {
+        return Ok(false);
     }
     let mut k: usize = 0;
     while k < 16 {
         let at = 14 + k * 29;
         let end = at + 29;
-        if !get_slot(&mut content[at..end]) {
-            return false;
+        if !get_slot(input, &mut content[at..end])? {
+            return Ok(false);
         }
         k += 1;
     }
-    get(&mut content[478..])
+    get(input, &mut content[478..])
 }
 
 // A record's 479 bytes.
-pub fn get_content(content: &mut [u8]) -> bool {
+pub fn get_content<R: Read>(input: &mut R, content: &mut [u8]) -> io::Result<bool> {
     if content.len() != 479 {
-        return false;
+        return Ok(false);
     }
-    get_slots(content)
+    get_slots(input, content)
 }

@@ -3,137 +3,182 @@
 // A room is lent full of a byte that the case names, so that a byte written by mistake is seen.
 #![tactic(auto)]
 
-use libc::STDOUT_FILENO;
+use std::io;
+use std::io::{Read, Write};
 
 const MOST: usize = 4200;
 
 // A line of an answer that has a value.
-fn write_value(kind: u8, answer: u64) {
-    io::write_all(STDOUT_FILENO, &[kind]);
-    cases::write_answer(answer);
-    cases::write_number(answer >> 40);
+fn write_value<W: Write>(output: &mut W, kind: u8, answer: u64) -> io::Result<()> {
+    output.write_all(&[kind])?;
+    cases::write_answer(output, answer)?;
+    cases::write_number(output, answer >> 40)
 }
 
 // The same, with a room of which so many bytes as the value says are filled where nothing is refused.
-fn write_filled(kind: u8, answer: u64, room: &[u8], fill: u8) {
-    write_value(kind, answer);
+fn write_filled<W: Write>(
+    output: &mut W,
+    kind: u8,
+    answer: u64,
+    room: &[u8],
+    fill: u8,
+) -> io::Result<()> {
+    write_value(output, kind, answer)?;
     let filled = if answer % 256 == 0 { answer >> 40 } else { 0 };
-    cases::write_number(filled);
-    cases::write_start(room, filled as usize, fill);
-    io::write_all(STDOUT_FILENO, b"\n");
+    cases::write_number(output, filled)?;
+    cases::write_start(output, room, filled as usize, fill)?;
+    output.write_all(b"\n")
 }
 
 // Counting. Answers whether the case was whole.
-pub fn run_count() -> bool {
+pub fn run_count<R: Read, W: Write>(input: &mut R, output: &mut W) -> io::Result<bool> {
     let mut file = [0u8; MOST];
-    let length = cases::get_span(&mut file);
+    let length = cases::get_span(input, &mut file)?;
     if length > MOST {
-        return false;
+        return Ok(false);
     }
-    write_value(b'K', kvk::kvk_day_count(&file[..length]));
-    io::write_all(STDOUT_FILENO, b"\n");
-    true
+    write_value(output, b'K', kvk::kvk_day_count(&file[..length]))?;
+    output.write_all(b"\n")?;
+    Ok(true)
 }
 
 // An image. Answers whether the case was whole.
-pub fn run_image() -> bool {
+pub fn run_image<R: Read, W: Write>(input: &mut R, output: &mut W) -> io::Result<bool> {
     let mut file = [0u8; MOST];
-    let length = cases::get_span(&mut file);
-    let position = cases::get_length();
+    let length = cases::get_span(input, &mut file)?;
+    let position = cases::get_length(input)?;
     if length > MOST {
-        return false;
+        return Ok(false);
     }
-    write_value(b'I', kvk::kvk_day_image(&file[..length], position as u64));
-    io::write_all(STDOUT_FILENO, b"\n");
-    position <= cases::LONGEST
+    write_value(
+        output,
+        b'I',
+        kvk::kvk_day_image(&file[..length], position as u64),
+    )?;
+    output.write_all(b"\n")?;
+    Ok(position <= cases::LONGEST)
 }
 
-fn find(file: &[u8], room: &mut [u8]) -> bool {
-    let length = cases::get_span(room);
+fn find<R: Read, W: Write>(
+    input: &mut R,
+    output: &mut W,
+    file: &[u8],
+    room: &mut [u8],
+) -> io::Result<bool> {
+    let length = cases::get_span(input, room)?;
     if length > room.len() {
-        return false;
+        return Ok(false);
     }
-    write_value(b'Q', kvk::kvk_day_find(file, &room[..length]));
-    io::write_all(STDOUT_FILENO, b"\n");
-    true
+    write_value(output, b'Q', kvk::kvk_day_find(file, &room[..length]))?;
+    output.write_all(b"\n")?;
+    Ok(true)
 }
 
 // Finding. Answers whether the case was whole.
-pub fn run_find(room: &mut [u8]) -> bool {
+pub fn run_find<R: Read, W: Write>(
+    input: &mut R,
+    output: &mut W,
+    room: &mut [u8],
+) -> io::Result<bool> {
     let mut file = [0u8; MOST];
-    let length = cases::get_span(&mut file);
+    let length = cases::get_span(input, &mut file)?;
     if length > MOST {
-        return false;
+        return Ok(false);
     }
-    find(&file[..length], room)
+    find(input, output, &file[..length], room)
 }
 
 // Adds a card in a room that is filled as the case says.
-fn add_filled(file: &[u8], card: &[u8], room: &mut [u8]) -> bool {
+fn add_filled<R: Read, W: Write>(
+    input: &mut R,
+    output: &mut W,
+    file: &[u8],
+    card: &[u8],
+    room: &mut [u8],
+) -> io::Result<bool> {
     let mut fill = [0u8; 1];
-    if !cases::get(&mut fill) {
-        return false;
+    if !cases::get(input, &mut fill)? {
+        return Ok(false);
     }
     cases::fill(room, fill[0]);
     let answer = kvk::kvk_day_add(file, card, room);
-    write_filled(b'A', answer, room, fill[0]);
-    true
+    write_filled(output, b'A', answer, room, fill[0])?;
+    Ok(true)
 }
 
-fn add(file: &[u8], card: &[u8]) -> bool {
-    let size = cases::get_length();
+fn add<R: Read, W: Write>(
+    input: &mut R,
+    output: &mut W,
+    file: &[u8],
+    card: &[u8],
+) -> io::Result<bool> {
+    let size = cases::get_length(input)?;
     if size > MOST {
-        return false;
+        return Ok(false);
     }
     let mut room = [0u8; MOST];
-    add_filled(file, card, &mut room[..size])
+    add_filled(input, output, file, card, &mut room[..size])
 }
 
-fn add_card(file: &[u8], card: &mut [u8]) -> bool {
-    let length = cases::get_span(card);
+fn add_card<R: Read, W: Write>(
+    input: &mut R,
+    output: &mut W,
+    file: &[u8],
+    card: &mut [u8],
+) -> io::Result<bool> {
+    let length = cases::get_span(input, card)?;
     if length > card.len() {
-        return false;
+        return Ok(false);
     }
-    add(file, &card[..length])
+    add(input, output, file, &card[..length])
 }
 
 // Adding. Answers whether the case was whole.
-pub fn run_add(card: &mut [u8]) -> bool {
+pub fn run_add<R: Read, W: Write>(
+    input: &mut R,
+    output: &mut W,
+    card: &mut [u8],
+) -> io::Result<bool> {
     let mut file = [0u8; MOST];
-    let length = cases::get_span(&mut file);
+    let length = cases::get_span(input, &mut file)?;
     if length > MOST {
-        return false;
+        return Ok(false);
     }
-    add_card(&file[..length], card)
+    add_card(input, output, &file[..length], card)
 }
 
 // Builds a file in a room that is filled as the case says.
-fn build_filled(images: &[u8], room: &mut [u8]) -> bool {
+fn build_filled<R: Read, W: Write>(
+    input: &mut R,
+    output: &mut W,
+    images: &[u8],
+    room: &mut [u8],
+) -> io::Result<bool> {
     let mut fill = [0u8; 1];
-    if !cases::get(&mut fill) {
-        return false;
+    if !cases::get(input, &mut fill)? {
+        return Ok(false);
     }
     cases::fill(room, fill[0]);
     let answer = kvk::kvk_day_build(images, room);
-    write_filled(b'B', answer, room, fill[0]);
-    true
+    write_filled(output, b'B', answer, room, fill[0])?;
+    Ok(true)
 }
 
-fn build(images: &[u8]) -> bool {
-    let size = cases::get_length();
+fn build<R: Read, W: Write>(input: &mut R, output: &mut W, images: &[u8]) -> io::Result<bool> {
+    let size = cases::get_length(input)?;
     if size > MOST {
-        return false;
+        return Ok(false);
     }
     let mut room = [0u8; MOST];
-    build_filled(images, &mut room[..size])
+    build_filled(input, output, images, &mut room[..size])
 }
 
 // Building. Answers whether the case was whole.
-pub fn run_build() -> bool {
+pub fn run_build<R: Read, W: Write>(input: &mut R, output: &mut W) -> io::Result<bool> {
     let mut images = [0u8; MOST];
-    let length = cases::get_span(&mut images);
+    let length = cases::get_span(input, &mut images)?;
     if length > MOST {
-        return false;
+        return Ok(false);
     }
-    build(&images[..length])
+    build(input, output, &images[..length])
 }

@@ -3,19 +3,24 @@
 // The room is the caller's, so that one room serves all kinds.
 #![tactic(auto)]
 
-use libc::STDOUT_FILENO;
+use std::io;
+use std::io::{Read, Write};
 
 // A length field. Answers whether the case was whole.
-pub fn run_length(room: &mut [u8]) -> bool {
-    let length = cases::get_span(room);
+pub fn run_length<R: Read, W: Write>(
+    input: &mut R,
+    output: &mut W,
+    room: &mut [u8],
+) -> io::Result<bool> {
+    let length = cases::get_span(input, room)?;
     if length > room.len() {
-        return false;
+        return Ok(false);
     }
     let answer = kvk::kvk_length(&room[..length]);
-    io::write_all(STDOUT_FILENO, b"L");
-    cases::write_answer(answer);
-    cases::write_number((answer >> 40) % 65536);
-    cases::write_number(answer >> 56);
-    io::write_all(STDOUT_FILENO, b"\n");
-    true
+    output.write_all(b"L")?;
+    cases::write_answer(output, answer)?;
+    cases::write_number(output, (answer >> 40) % 65536)?;
+    cases::write_number(output, answer >> 56)?;
+    output.write_all(b"\n")?;
+    Ok(true)
 }

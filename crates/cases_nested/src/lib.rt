@@ -3,26 +3,27 @@
 // A table that is not well formed is a case like any other: its clause is told, and no tag.
 #![tactic(auto)]
 
-use libc::STDOUT_FILENO;
+use std::io;
+use std::io::{Read, Write};
 
-fn decide(inner: &[u8], outer: &[u8]) {
+fn decide<W: Write>(output: &mut W, inner: &[u8], outer: &[u8]) -> io::Result<()> {
     let answer = kvk::kvk_nested(inner, outer);
-    io::write_all(STDOUT_FILENO, b"E");
-    cases::write_answer(answer);
-    cases::write_number(answer >> 40);
-    io::write_all(STDOUT_FILENO, b"\n");
+    output.write_all(b"E")?;
+    cases::write_answer(output, answer)?;
+    cases::write_number(output, answer >> 40)?;
+    output.write_all(b"\n")
 }
 
 // Answers whether the case was whole.
-pub fn run_nested() -> bool {
+pub fn run_nested<R: Read, W: Write>(input: &mut R, output: &mut W) -> io::Result<bool> {
     let mut inner = [0u8; 103];
-    if !cases::get_table(&mut inner) {
-        return false;
+    if !cases::get_table(input, &mut inner)? {
+        return Ok(false);
     }
     let mut outer = [0u8; 103];
-    if !cases::get_table(&mut outer) {
-        return false;
+    if !cases::get_table(input, &mut outer)? {
+        return Ok(false);
     }
-    decide(&inner, &outer);
-    true
+    decide(output, &inner, &outer)?;
+    Ok(true)
 }

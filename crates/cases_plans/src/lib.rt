@@ -3,7 +3,8 @@
 // Of our own plan only what is asked of every plan is told: that it has at most 257 steps and passes the check.
 #![tactic(auto)]
 
-use libc::STDOUT_FILENO;
+use std::io;
+use std::io::{Read, Write};
 
 // The check of the first `count` words; 0 where there are not so many.
 fn checked(table: &[u8], old: &[u8], new: &[u8], steps: &[u32], count: usize) -> u64 {
@@ -13,73 +14,94 @@ fn checked(table: &[u8], old: &[u8], new: &[u8], steps: &[u32], count: usize) ->
     kvk::kvk_check_plan(table, old, new, &steps[..count])
 }
 
-fn plan(table: &[u8], old: &[u8], new: &[u8]) {
+fn plan<W: Write>(output: &mut W, table: &[u8], old: &[u8], new: &[u8]) -> io::Result<()> {
     let mut steps = [0xA5A5A5A5u32; 257];
     let answer = kvk::kvk_plan(table, old, new, &mut steps);
-    io::write_all(STDOUT_FILENO, b"S");
-    cases::write_answer(answer);
+    output.write_all(b"S")?;
+    cases::write_answer(output, answer)?;
     if answer % 256 == 0 {
-        cases::write_number(checked(table, old, new, &steps, (answer >> 40) as usize) >> 40);
+        cases::write_number(
+            output,
+            checked(table, old, new, &steps, (answer >> 40) as usize) >> 40,
+        )?;
     } else {
-        cases::write_number(0);
+        cases::write_number(output, 0)?;
     }
-    io::write_all(STDOUT_FILENO, b"\n");
+    output.write_all(b"\n")
 }
 
-fn check(table: &[u8], old: &[u8], new: &[u8], steps: &[u32], count: usize) {
+fn check<W: Write>(
+    output: &mut W,
+    table: &[u8],
+    old: &[u8],
+    new: &[u8],
+    steps: &[u32],
+    count: usize,
+) -> io::Result<()> {
     let answer = checked(table, old, new, steps, count);
-    io::write_all(STDOUT_FILENO, b"C");
-    cases::write_answer(answer);
-    cases::write_number(answer >> 40);
-    io::write_all(STDOUT_FILENO, b"\n");
+    output.write_all(b"C")?;
+    cases::write_answer(output, answer)?;
+    cases::write_number(output, answer >> 40)?;
+    output.write_all(b"\n")
 }
 
 // Fills the head of a room with so many words from the input, and answers whether they were all there.
-fn get_words(room: &mut [u32], count: usize) -> bool {
+fn get_words<R: Read>(input: &mut R, room: &mut [u32], count: usize) -> io::Result<bool> {
     let mut i: usize = 0;
     while i < count {
         let mut bytes = [0u8; 4];
-        if !cases::get(&mut bytes) {
-            return false;
+        if !cases::get(input, &mut bytes)? {
+            return Ok(false);
         }
         if i >= room.len() {
-            return false;
+            return Ok(false);
         }
         room[i] = cases::word_of(&bytes);
         i += 1;
     }
-    true
+    Ok(true)
 }
 
 // The steps of a case. Answers whether the case was whole.
-fn run_check(table: &[u8], old: &[u8], new: &[u8]) -> bool {
+fn run_check<R: Read, W: Write>(
+    input: &mut R,
+    output: &mut W,
+    table: &[u8],
+    old: &[u8],
+    new: &[u8],
+) -> io::Result<bool> {
     let mut steps = [0u32; 300];
-    let count = cases::get_length();
-    if !get_words(&mut steps, count) {
-        return false;
+    let count = cases::get_length(input)?;
+    if !get_words(input, &mut steps, count)? {
+        return Ok(false);
     }
-    check(table, old, new, &steps, count);
-    true
+    check(output, table, old, new, &steps, count)?;
+    Ok(true)
 }
 
 // A rewriting, with steps where they are given. Answers whether the case was whole.
-pub fn run_rewriting(old: &mut [u8], has_steps: bool) -> bool {
+pub fn run_rewriting<R: Read, W: Write>(
+    input: &mut R,
+    output: &mut W,
+    old: &mut [u8],
+    has_steps: bool,
+) -> io::Result<bool> {
     let mut table = [0u8; 103];
-    if !cases::get_table(&mut table) {
-        return false;
+    if !cases::get_table(input, &mut table)? {
+        return Ok(false);
     }
-    let length = cases::get_span(old);
+    let length = cases::get_span(input, old)?;
     if length > old.len() {
-        return false;
+        return Ok(false);
     }
     let mut new = [0u8; 600];
-    let size = cases::get_span(&mut new);
+    let size = cases::get_span(input, &mut new)?;
     if size > 600 {
-        return false;
+        return Ok(false);
     }
     if has_steps {
-        return run_check(&table, &old[..length], &new[..size]);
+        return run_check(input, output, &table, &old[..length], &new[..size]);
     }
-    plan(&table, &old[..length], &new[..size]);
-    true
+    plan(output, &table, &old[..length], &new[..size])?;
+    Ok(true)
 }

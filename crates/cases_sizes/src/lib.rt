@@ -3,7 +3,8 @@
 // Where a call only reads a record, the room is lent as that record, and stays as it was.
 #![tactic(auto)]
 
-use libc::STDOUT_FILENO;
+use std::io;
+use std::io::{Read, Write};
 
 // Writing and printing, which read a record.
 fn call_with_record(call: usize, table: &[u8], record: &[u8]) -> u64 {
@@ -55,31 +56,41 @@ fn put_terminal(table: &mut [u8]) {
 }
 
 // Writes the answer and the room.
-fn write_call(call: usize, table: &mut [u8], room: &mut [u8]) {
+fn write_call<W: Write>(
+    output: &mut W,
+    call: usize,
+    table: &mut [u8],
+    room: &mut [u8],
+) -> io::Result<()> {
     put_terminal(table);
-    io::write_all(STDOUT_FILENO, b"Z");
-    cases::write_answer(call_with(call, table, room));
-    cases::write_room(room, 0xA5);
-    io::write_all(STDOUT_FILENO, b"\n");
+    output.write_all(b"Z")?;
+    cases::write_answer(output, call_with(call, table, room))?;
+    cases::write_room(output, room, 0xA5)?;
+    output.write_all(b"\n")
 }
 
-fn write_sizes(call: usize, table: &mut [u8], room_size: usize) -> bool {
+fn write_sizes<W: Write>(
+    output: &mut W,
+    call: usize,
+    table: &mut [u8],
+    room_size: usize,
+) -> io::Result<bool> {
     let mut room = [0xA5u8; 600];
     if room_size > 600 {
-        return false;
+        return Ok(false);
     }
-    write_call(call, table, &mut room[..room_size]);
-    true
+    write_call(output, call, table, &mut room[..room_size])?;
+    Ok(true)
 }
 
 // Answers whether the case was whole.
-pub fn run_sizes() -> bool {
-    let call = cases::get_length();
-    let table_size = cases::get_length();
-    let room_size = cases::get_length();
+pub fn run_sizes<R: Read, W: Write>(input: &mut R, output: &mut W) -> io::Result<bool> {
+    let call = cases::get_length(input)?;
+    let table_size = cases::get_length(input)?;
+    let room_size = cases::get_length(input)?;
     let mut table = [0u8; 600];
     if table_size > 600 {
-        return false;
+        return Ok(false);
     }
-    write_sizes(call, &mut table[..table_size], room_size)
+    write_sizes(output, call, &mut table[..table_size], room_size)
 }

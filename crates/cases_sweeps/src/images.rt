@@ -1,6 +1,7 @@
 // Sweeps of an image.
 use crate::digest::fold_reading;
-use libc::STDOUT_FILENO;
+use std::io;
+use std::io::{Read, Write};
 
 // The exclusive or of the bytes from address 30 to before the place.
 fn sum_before(image: &[u8], place: usize) -> u8 {
@@ -45,77 +46,119 @@ fn sweep_address(table: &[u8], image: &mut [u8], address: usize, checksum_at: us
 }
 
 // A digest for each address.
-fn write_sweep(table: &[u8], image: &mut [u8], from: usize, until: usize, checksum_at: usize) {
+fn write_sweep<W: Write>(
+    output: &mut W,
+    table: &[u8],
+    image: &mut [u8],
+    from: usize,
+    until: usize,
+    checksum_at: usize,
+) -> io::Result<()> {
     let mut address = from;
     while address < until && address < image.len() {
-        cases::write_number(sweep_address(table, image, address, checksum_at));
+        cases::write_number(output, sweep_address(table, image, address, checksum_at))?;
         address += 1;
     }
+    Ok(())
 }
 
 // A digest for each value at the first address.
-fn write_pair_sweep(table: &[u8], image: &mut [u8], first: usize, then: usize, checksum_at: usize) {
+fn write_pair_sweep<W: Write>(
+    output: &mut W,
+    table: &[u8],
+    image: &mut [u8],
+    first: usize,
+    then: usize,
+    checksum_at: usize,
+) -> io::Result<()> {
     let mut value: usize = 0;
     while value < 256 && first < image.len() && then < image.len() {
         ground_room::put_byte(image, first, value as u8);
-        cases::write_number(sweep_address(table, image, then, checksum_at));
+        cases::write_number(output, sweep_address(table, image, then, checksum_at))?;
         value += 1;
     }
+    Ok(())
 }
 
 // The letter, and the answer to what is lent, unchanged.
-pub(crate) fn write_reading(kind: u8, table: &[u8], image: &[u8]) {
+pub(crate) fn write_reading<W: Write>(
+    output: &mut W,
+    kind: u8,
+    table: &[u8],
+    image: &[u8],
+) -> io::Result<()> {
     let mut record = [0u8; 479];
-    io::write_all(STDOUT_FILENO, &[kind]);
-    cases::write_answer(kvk::kvk_read(table, image, &mut record));
+    output.write_all(&[kind])?;
+    cases::write_answer(output, kvk::kvk_read(table, image, &mut record))
 }
 
-fn write_digests(
+fn write_digests<W: Write>(
+    output: &mut W,
     table: &[u8],
     image: &mut [u8],
     from: usize,
     until: usize,
     checksum_at: usize,
     is_pair: bool,
-) {
+) -> io::Result<()> {
     if is_pair {
-        write_pair_sweep(table, image, from, until, checksum_at);
-        return;
+        return write_pair_sweep(output, table, image, from, until, checksum_at);
     }
-    write_sweep(table, image, from, until, checksum_at);
+    write_sweep(output, table, image, from, until, checksum_at)
 }
 
-fn sweep_image(kind: u8, table: &[u8], image: &mut [u8], is_pair: bool) -> bool {
-    let from = cases::get_length();
-    let until = cases::get_length();
-    let checksum_at = cases::get_length();
+fn sweep_image<R: Read, W: Write>(
+    input: &mut R,
+    output: &mut W,
+    kind: u8,
+    table: &[u8],
+    image: &mut [u8],
+    is_pair: bool,
+) -> io::Result<bool> {
+    let from = cases::get_length(input)?;
+    let until = cases::get_length(input)?;
+    let checksum_at = cases::get_length(input)?;
     if from > cases::LONGEST || until > cases::LONGEST || checksum_at > cases::LONGEST {
-        return false;
+        return Ok(false);
     }
-    write_reading(kind, table, image);
-    write_digests(table, image, from, until, checksum_at, is_pair);
-    io::write_all(STDOUT_FILENO, b"\n");
-    true
+    write_reading(output, kind, table, image)?;
+    write_digests(output, table, image, from, until, checksum_at, is_pair)?;
+    output.write_all(b"\n")?;
+    Ok(true)
 }
 
-fn run_image_sweep(kind: u8, room: &mut [u8], is_pair: bool) -> bool {
+fn run_image_sweep<R: Read, W: Write>(
+    input: &mut R,
+    output: &mut W,
+    kind: u8,
+    room: &mut [u8],
+    is_pair: bool,
+) -> io::Result<bool> {
     let mut table = [0u8; 103];
-    if !cases::get_table(&mut table) {
-        return false;
+    if !cases::get_table(input, &mut table)? {
+        return Ok(false);
     }
-    let length = cases::get_span(room);
+    let length = cases::get_span(input, room)?;
     if length > room.len() {
-        return false;
+        return Ok(false);
     }
-    sweep_image(kind, &table, &mut room[..length], is_pair)
+    sweep_image(input, output, kind, &table, &mut room[..length], is_pair)
 }
 
 // Each address of a range. Answers whether the case was whole.
-pub fn run_sweep(room: &mut [u8]) -> bool {
-    run_image_sweep(b'V', room, false)
+pub fn run_sweep<R: Read, W: Write>(
+    input: &mut R,
+    output: &mut W,
+    room: &mut [u8],
+) -> io::Result<bool> {
+    run_image_sweep(input, output, b'V', room, false)
 }
 
 // Two addresses. Answers whether the case was whole.
-pub fn run_pair_sweep(room: &mut [u8]) -> bool {
-    run_image_sweep(b'M', room, true)
+pub fn run_pair_sweep<R: Read, W: Write>(
+    input: &mut R,
+    output: &mut W,
+    room: &mut [u8],
+) -> io::Result<bool> {
+    run_image_sweep(input, output, b'M', room, true)
 }

@@ -1,7 +1,8 @@
 // Sweeps of a record and of an edition's table.
 use crate::digest::{fold_call, fold_reading};
 use crate::images::write_reading;
-use libc::STDOUT_FILENO;
+use std::io;
+use std::io::{Read, Write};
 
 // A writing, with the image that it leaves.
 fn fold_writing(digest: u64, table: &[u8], record: &[u8]) -> u64 {
@@ -39,60 +40,70 @@ fn sweep_table(table: &mut [u8], index: usize, image: &[u8]) -> u64 {
 }
 
 // A digest for each index of the record.
-fn write_record_sweep(table: &[u8], record: &mut [u8], from: usize, until: usize) {
+fn write_record_sweep<W: Write>(
+    output: &mut W,
+    table: &[u8],
+    record: &mut [u8],
+    from: usize,
+    until: usize,
+) -> io::Result<()> {
     let mut image = [0u8; 256];
-    io::write_all(STDOUT_FILENO, b"O");
-    cases::write_answer(kvk::kvk_write(table, record, &mut image));
+    output.write_all(b"O")?;
+    cases::write_answer(output, kvk::kvk_write(table, record, &mut image))?;
     let mut index = from;
     while index < until && index < record.len() {
-        cases::write_number(sweep_index(table, record, index));
+        cases::write_number(output, sweep_index(table, record, index))?;
         index += 1;
     }
-    io::write_all(STDOUT_FILENO, b"\n");
+    output.write_all(b"\n")
 }
 
 // A digest for each index of the table, and one of the table as it is.
-fn write_table_sweep(table: &mut [u8], image: &[u8]) {
-    write_reading(b'X', table, image);
+fn write_table_sweep<W: Write>(output: &mut W, table: &mut [u8], image: &[u8]) -> io::Result<()> {
+    write_reading(output, b'X', table, image)?;
     let size = table.len();
     let mut index: usize = 0;
     while index < size {
-        cases::write_number(sweep_table(table, index, image));
+        cases::write_number(output, sweep_table(table, index, image))?;
         index += 1;
     }
-    cases::write_number(fold_call(1, 0, table));
-    io::write_all(STDOUT_FILENO, b"\n");
+    cases::write_number(output, fold_call(1, 0, table))?;
+    output.write_all(b"\n")
 }
 
 // A record. Answers whether the case was whole.
-pub fn run_record_sweep() -> bool {
+pub fn run_record_sweep<R: Read, W: Write>(input: &mut R, output: &mut W) -> io::Result<bool> {
     let mut table = [0u8; 103];
-    if !cases::get_table(&mut table) {
-        return false;
+    if !cases::get_table(input, &mut table)? {
+        return Ok(false);
     }
     let mut record = [0u8; 479];
-    if !cases::get_content(&mut record) {
-        return false;
+    if !cases::get_content(input, &mut record)? {
+        return Ok(false);
     }
-    let from = cases::get_length();
-    let until = cases::get_length();
+    let from = cases::get_length(input)?;
+    let until = cases::get_length(input)?;
     if from > cases::LONGEST || until > cases::LONGEST {
-        return false;
+        return Ok(false);
     }
-    write_record_sweep(&table, &mut record, from, until);
-    true
+    write_record_sweep(output, &table, &mut record, from, until)?;
+    Ok(true)
 }
 
 // A table. Answers whether the case was whole.
-pub fn run_table_sweep(room: &mut [u8]) -> bool {
+pub fn run_table_sweep<R: Read, W: Write>(
+    input: &mut R,
+    output: &mut W,
+    room: &mut [u8],
+) -> io::Result<bool> {
     let mut table = [0u8; 103];
-    if !cases::get_table(&mut table) {
-        return false;
+    if !cases::get_table(input, &mut table)? {
+        return Ok(false);
     }
-    let length = cases::get_span(room);
+    let length = cases::get_span(input, room)?;
     if length > room.len() {
-        return false;
+        return Ok(false);
     }
-    write_table_sweep(&mut table, &room[..length]);
-    true
+    write_table_sweep(output, &mut table, &room[..length])?;
+    Ok(true)
 }

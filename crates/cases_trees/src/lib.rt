@@ -5,17 +5,22 @@
 
 ghost use Rattle.std.specs.Prelude.{◌≤◌, length};
 
-use libc::STDOUT_FILENO;
+use std::io;
+use std::io::{Read, Write};
 
 const LONGEST: usize = 4200;
 
 // Writes each word as four capital hex digits.
-fn write_words(words: &[u16]) {
+fn write_words<W: Write>(output: &mut W, words: &[u16]) -> io::Result<()> {
     let mut i = 0;
     while i < words.len() {
-        cases::write_hex(&[(words[i] / 256 % 256) as u8, (words[i] % 256) as u8]);
+        cases::write_hex(
+            output,
+            &[(words[i] / 256 % 256) as u8, (words[i] % 256) as u8],
+        )?;
         i += 1;
     }
+    Ok(())
 }
 
 fn count_other_words(words: &[u16], word: u16) -> u64
@@ -46,50 +51,65 @@ fn filled(answer: u64, count: u64, size: usize) -> usize
 }
 
 // Writes the words that were filled, and how many of those behind them are not this word.
-fn write_filled_words(room: &[u16], end: usize, word: u16) {
+fn write_filled_words<W: Write>(
+    output: &mut W,
+    room: &[u16],
+    end: usize,
+    word: u16,
+) -> io::Result<()> {
     if end > room.len() {
-        return;
+        return Ok(());
     }
-    io::write_all(STDOUT_FILENO, b" ");
+    output.write_all(b" ")?;
     if end == 0 {
-        io::write_all(STDOUT_FILENO, b"=");
+        output.write_all(b"=")?;
     }
-    write_words(&room[..end]);
-    cases::write_number(count_other_words(&room[end..], word));
+    write_words(output, &room[..end])?;
+    cases::write_number(output, count_other_words(&room[end..], word))
 }
 
-fn list_tree(bytes: &[u8], room: &mut [u16], word: u16) {
+fn list_tree<W: Write>(
+    output: &mut W,
+    bytes: &[u8],
+    room: &mut [u16],
+    word: u16,
+) -> io::Result<()> {
     let answer = kvk::kvk_tree(bytes, room);
-    io::write_all(STDOUT_FILENO, b"G");
-    cases::write_answer(answer);
-    cases::write_number(answer >> 40);
-    write_filled_words(room, filled(answer, (answer >> 40) * 4, room.len()), word);
-    io::write_all(STDOUT_FILENO, b"\n");
+    output.write_all(b"G")?;
+    cases::write_answer(output, answer)?;
+    cases::write_number(output, answer >> 40)?;
+    write_filled_words(
+        output,
+        room,
+        filled(answer, (answer >> 40) * 4, room.len()),
+        word,
+    )?;
+    output.write_all(b"\n")
 }
 
 // Lists into a room of so many words, each of them the fill twice.
-fn list_filled(bytes: &[u8], words: usize, fill: u8)
+fn list_filled<W: Write>(output: &mut W, bytes: &[u8], words: usize, fill: u8) -> io::Result<()>
     requires { words ≤ 4200 }
 {
     let word = fill as u16 * 257;
     let mut room = [word; LONGEST];
-    list_tree(bytes, &mut room[..words], word);
+    list_tree(output, bytes, &mut room[..words], word)
 }
 
 // A listing.
-pub fn run_tree() -> bool {
+pub fn run_tree<R: Read, W: Write>(input: &mut R, output: &mut W) -> io::Result<bool> {
     let mut bytes = [0u8; LONGEST];
-    let length = cases::get_span(&mut bytes);
+    let length = cases::get_span(input, &mut bytes)?;
     if length > LONGEST {
-        return false;
+        return Ok(false);
     }
-    let words = cases::get_length();
+    let words = cases::get_length(input)?;
     let mut fill = [0u8; 1];
-    if words > LONGEST || !cases::get(&mut fill) {
-        return false;
+    if words > LONGEST || !cases::get(input, &mut fill)? {
+        return Ok(false);
     }
-    list_filled(&bytes[..length], words, fill[0]);
-    true
+    list_filled(output, &bytes[..length], words, fill[0])?;
+    Ok(true)
 }
 
 // The words that bytes write, high byte first.
@@ -104,41 +124,51 @@ fn words_of(bytes: &[u8]) -> [u16; 2100] {
     words
 }
 
-fn write_tree(words: &[u16], values: &[u8], room: &mut [u8], fill: u8) {
+fn write_tree<W: Write>(
+    output: &mut W,
+    words: &[u16],
+    values: &[u8],
+    room: &mut [u8],
+    fill: u8,
+) -> io::Result<()> {
     cases::fill(room, fill);
     let answer = kvk::kvk_tree_write(words, values, room);
-    io::write_all(STDOUT_FILENO, b"U");
-    cases::write_answer(answer);
+    output.write_all(b"U")?;
+    cases::write_answer(output, answer)?;
     let end = filled(answer, answer >> 40, room.len());
-    cases::write_number(end as u64);
-    cases::write_start(room, end, fill);
-    io::write_all(STDOUT_FILENO, b"\n");
+    cases::write_number(output, end as u64)?;
+    cases::write_start(output, room, end, fill)?;
+    output.write_all(b"\n")
 }
 
 // The rest of a case of writing back: values, room and fill.
-fn write_tree_of(words: &[u16]) -> bool {
+fn write_tree_of<R: Read, W: Write>(
+    input: &mut R,
+    output: &mut W,
+    words: &[u16],
+) -> io::Result<bool> {
     let mut values = [0u8; LONGEST];
-    let length = cases::get_span(&mut values);
+    let length = cases::get_span(input, &mut values)?;
     if length > LONGEST {
-        return false;
+        return Ok(false);
     }
-    let size = cases::get_length();
+    let size = cases::get_length(input)?;
     let mut fill = [0u8; 1];
-    if size > LONGEST || !cases::get(&mut fill) {
-        return false;
+    if size > LONGEST || !cases::get(input, &mut fill)? {
+        return Ok(false);
     }
     let mut room = [0u8; LONGEST];
-    write_tree(words, &values[..length], &mut room[..size], fill[0]);
-    true
+    write_tree(output, words, &values[..length], &mut room[..size], fill[0])?;
+    Ok(true)
 }
 
 // Writing back.
-pub fn run_tree_write() -> bool {
+pub fn run_tree_write<R: Read, W: Write>(input: &mut R, output: &mut W) -> io::Result<bool> {
     let mut bytes = [0u8; LONGEST];
-    let length = cases::get_span(&mut bytes);
+    let length = cases::get_span(input, &mut bytes)?;
     if length > LONGEST {
-        return false;
+        return Ok(false);
     }
     let words = words_of(&bytes[..length]);
-    write_tree_of(&words[..length / 2])
+    write_tree_of(input, output, &words[..length / 2])
 }

@@ -21,7 +21,7 @@ use Rattle.card.specs.Rules.{Entry, entries, object_rows, AllMet, Fault, met, mi
 use Rattle.card.specs.Layout.{object_tags}
 use Rattle.card.specs.Sums.{sums_refusal}
 use Rattle.card.specs.Refusing.{row_refusal, rows_refusal, ends_refusal, template_refusal, number_refusal, content_refusal, edition_refusal, write_refusal}
-use Rattle.card.specs.Writing.{record_refusal, renumbered}
+use Rattle.card.specs.Writing.{renumbered}
 use Rattle.card.proofs.Chains.{or_pass, or_keeps, gate_after}
 use Rattle.demands.specs.Demands.{library_writer}
 use Rattle.demands.specs.Renumbering.{Renumbers, library_renumberer}

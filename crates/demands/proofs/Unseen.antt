@@ -15,7 +15,7 @@ use Rattle.lengths.specs.Lengths.{length_field}
 use Rattle.card.specs.Layout.{identifier, head, body, xor_all, summed, template, spaces, lasts, filler, object_tags, layout}
 use Rattle.card.specs.Rules.{entries, object_rows, AllMet, one_more, first_allowed, last_allowed, Allowed, Meets}
 use Rattle.demands.specs.Marked.{values_s, card_of}
-use Rattle.demands.specs.OneByte.{Unseen, image_s, image_s82, GoUnseen}
+use Rattle.demands.specs.OneByte.{image_s, GoUnseen}
 use Rattle.demands.proofs.Accepts.{reads}
 use Rattle.demands.proofs.Wrong.{lent, read_S}
 

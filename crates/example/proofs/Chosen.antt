@@ -11,7 +11,7 @@ use Rattle.ground.proofs.Lists.{true_false}
 use Rattle.edition.specs.declared.Edition.{Edition}
 use Rattle.nesting.specs.declared.Nesting.{Nesting}
 use Rattle.card.specs.declared.Record.{Record}
-use Rattle.card.specs.Content.{Content, content_of, record_of_lem}
+use Rattle.card.specs.Content.{Content, content_of, record_of}
 use Rattle.card.specs.Layout.{objects_of, template_length}
 use Rattle.card.proofs.Records.{content_back}
 use Rattle.example.specs.Cards.{card_of, enough, first_from, chosen_card}
@@ -36,7 +36,7 @@ unfolding first_from
 first_end f k e = rw e
 
 -- ---- by the size of a record
-module _ (i o : Edition) (n : Nesting) (long : ℕ) (r : Record) (size : ℕ) (made : r ≡ record_of_lem i.number (card_of i o n long)) (s : size ≡ length (objects_of (content_of r))) where
+module _ (i o : Edition) (n : Nesting) (long : ℕ) (r : Record) (size : ℕ) (made : r ≡ record_of i.number (card_of i o n long)) (s : size ≡ length (objects_of (content_of r))) where
   same_size : size ≡ length (objects_of (card_of i o n long))
   same_size = s ∙ ap (λ (c : Content). length (objects_of c)) (ap content_of made ∙ content_back i.number (card_of i o n long))
 
@@ -48,22 +48,22 @@ module _ (i o : Edition) (n : Nesting) (long : ℕ) (r : Record) (size : ℕ) (m
   unfolding enough
   is-short h = lt-leb 70 (template_length (objects_of (card_of i o n long))) (omega (arith, same_size))
 
-  pub chosen_here : first_from (enough i o n) 16 0 ≡ first_from (enough i o n) (16 - long) long → 70 ≤ size + 3 → r ≡ record_of_lem i.number (chosen_card i o n)
+  pub chosen_here : first_from (enough i o n) 16 0 ≡ first_from (enough i o n) (16 - long) long → 70 ≤ size + 3 → r ≡ record_of i.number (chosen_card i o n)
   unfolding chosen_card
   chosen_here e h =
       let same : long ≡ first_from (enough i o n) 16 0 = sym (e ∙ first_here (enough i o n) (16 - long) long (is-enough h)) in
-      made ∙ ap (λ (k : ℕ). record_of_lem i.number (card_of i o n k)) same
+      made ∙ ap (λ (k : ℕ). record_of i.number (card_of i o n k)) same
 
   pub chosen_turn : first_from (enough i o n) 16 0 ≡ first_from (enough i o n) (16 - long) long → long < 16 → size + 3 < 70
       → first_from (enough i o n) 16 0 ≡ first_from (enough i o n) (16 - (long + 1)) (long + 1)
   chosen_turn e b h = e ∙ first_turn (enough i o n) long b (is-short h)
 
 pub chosen_all : (i o : Edition) (n : Nesting) (long : ℕ) → first_from (enough i o n) 16 0 ≡ first_from (enough i o n) (16 - long) long → long ≡ 16
-    → record_of_lem i.number (card_of i o n 16) ≡ record_of_lem i.number (chosen_card i o n)
+    → record_of i.number (card_of i o n 16) ≡ record_of i.number (chosen_card i o n)
 unfolding chosen_card
 chosen_all i o n long e l =
     let same : first_from (enough i o n) 16 0 ≡ 16 = e ∙ first_end (enough i o n) long l in
-    ap (λ (k : ℕ). record_of_lem i.number (card_of i o n k)) (sym same)
+    ap (λ (k : ℕ). record_of i.number (card_of i o n k)) (sym same)
 
 -- ---- where any of the cards is big enough, the one chosen is
 first_does : (f : ℕ → Bool) (m k j : ℕ) → k ≤ j → j ≤ k + m → f j ≡ true → f (first_from f m k) ≡ true

@@ -3,62 +3,90 @@
 // "-" names standard input and standard output; a file that is written appears whole under its name, or not at all, even where the plug is pulled.
 #![tactic(auto)]
 
+mod arguments;
+mod beside;
+mod failures;
+mod reach;
+mod streams;
 mod words;
 
-use libc::{STDIN_FILENO, STDOUT_FILENO};
+pub use arguments::{arg, arg_count};
+pub use reach::Outside;
+use std::fs::File;
+use std::io::{Error, ErrorKind};
+use std::rt::Files;
+use std::{io, str};
+pub use streams::{Source, print_decimal, read_full, write_all};
 pub use words::{choose, edition_named};
 
-// Opens a file to be read and answers its descriptor, or -1.
-pub fn open(path: &[u8]) -> i32 {
+// Linux's number of the error that a name is too long.
+const TOO_LONG: i32 = 36;
+
+// The name of a file as text, which it has to be.
+fn name_of(path: &[u8]) -> io::Result<&str> {
+    match str::from_utf8(path) {
+        Ok(name) => Ok(name),
+        Err(_) => Err(Error::new(ErrorKind::InvalidFilename, "the name is no text in UTF-8")),
+    }
+}
+
+fn open_named<R: Files>(rt: &R, path: &[u8]) -> io::Result<R::File> {
+    File::open(rt, name_of(path)?)
+}
+
+// Opens a file to be read, if it can be.
+pub fn open<R: Outside>(rt: &R, path: &[u8]) -> Option<Source<R::Reader, R::File>> {
     if ground_parts::is_same(path, b"-") {
-        return STDIN_FILENO;
+        return Some(Source::Standard(rt.reader()));
     }
-    let file = os::open_read(path);
-    if file < 0 {
-        os::fail(path);
+    match open_named(rt, path) {
+        Ok(file) => Some(Source::Named(file)),
+        Err(error) => {
+            failures::fail(&rt.stderr(), path, error);
+            None
+        }
     }
-    file
 }
 
 // Writes a file by way of one that is made beside it, whose name has 7 bytes more.
-fn write_beside(path: &[u8], bytes: &[u8]) -> bool {
-    let mut room = io::buffer();
+fn write_beside<R: Outside>(rt: &R, path: &[u8], bytes: &[u8]) -> io::Result<()> {
+    let mut room = [0u8; 4096];
     let start = ground_room::put(&mut room, 0, path);
     let end = ground_room::put(&mut room, start, b".XXXXXX");
     if end != path.len() + 7 {
-        return false;
+        return Err(Error::from_raw_os_error(TOO_LONG));
     }
     if end > 4096 {
-        return false;
+        return Err(Error::from_raw_os_error(TOO_LONG));
     }
-    write_new(&mut room[..end], path, bytes)
+    write_new(rt, &mut room[..end], path, bytes)
 }
 
 // Makes a file by a name of its own, writes it, and gives it its name when all of it is on its device.
-fn write_new(name: &mut [u8], path: &[u8], bytes: &[u8]) -> bool {
-    let file = os::create_temp(name);
-    if file < 0 {
-        return false;
+fn write_new<R: Outside>(rt: &R, name: &mut [u8], path: &[u8], bytes: &[u8]) -> io::Result<()> {
+    let file = beside::make_new(rt, name)?;
+    let written = match beside::fill(file, bytes) {
+        Ok(()) => beside::rename(rt, name, path),
+        Err(error) => Err(error),
+    };
+    if written.is_err() {
+        let _ = beside::remove(rt, name);
     }
-    let is_written = io::write_all(file, bytes);
-    let is_synced = libc::fsync(file) == 0;
-    let is_closed = libc::close(file) == 0;
-    if is_written & is_synced & is_closed & (os::rename(name, path) == 0) {
-        return true;
-    }
-    os::unlink(name);
-    false
+    written
 }
 
 // Writes a file all or nothing, and answers whether it stands.
-pub fn write(path: &[u8], bytes: &[u8]) -> bool {
-    let is_written = if ground_parts::is_same(path, b"-") {
-        io::write_all(STDOUT_FILENO, bytes)
+pub fn write<R: Outside>(rt: &R, path: &[u8], bytes: &[u8]) -> bool {
+    let written = if ground_parts::is_same(path, b"-") {
+        rt.write_all(bytes)
     } else {
-        write_beside(path, bytes)
+        write_beside(rt, path, bytes)
     };
-    if !is_written {
-        os::fail(path);
+    match written {
+        Ok(()) => true,
+        Err(error) => {
+            failures::fail(&rt.stderr(), path, error);
+            false
+        }
     }
-    is_written
 }

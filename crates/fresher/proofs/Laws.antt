@@ -23,7 +23,7 @@ use Rattle.lookup.proofs.Cuts.{within_is}
 use Rattle.lookup.proofs.Tells.{same_refusal, tell_alike}
 use Rattle.fresher.specs.declared.Card.{Card}
 use Rattle.fresher.specs.declared.Fresher.{Fresher}
-use Rattle.fresher.specs.Comparing.{months_of, expires, validity_of, card_of, unweighed, later, weighed, fresher_of, name_of}
+use Rattle.fresher.specs.Comparing.{months_of, expires, card_of, unweighed, later, weighed, fresher_of, name_of}
 
 -- ---- nothing is refused
 pub record Weighed (expiry : Bool) (a b : Card) : Type 0 where

@@ -1,7 +1,7 @@
 -- Each line of a content whose values have their places is 28 long, and is what the code puts; the lines fill a room of 112. Assumes nothing.
-use mathlib.Core.Path.{◌≡◌, refl, sym, ap, ◌∙◌}
+use mathlib.Core.Path.{◌≡◌, refl, ap, ◌∙◌}
 use mathlib.Core.Bool.{Bool, true, false, cond}
-use mathlib.Core.List.{List, [], ◌∷◌, ◌++◌}
+use mathlib.Core.List.{List, [], ◌++◌}
 use Prim.Native.Nat.{ℕ, ◌+◌, ◌≤◌}
 use native.Mathlib.Omega.{arith}
 use borrow.Author.Tests.{leb-true, le-leb}
@@ -11,7 +11,7 @@ use Rattle.ground.specs.Rooms.{room_with, Put}
 use Rattle.ground.proofs.Puts.{put_stored, put_then}
 use Rattle.card.specs.Content.{Content}
 use Rattle.front.specs.Lines.{value, addition_sign, status_shown, spaced, forenames, on_one_line, first_of, second_of, field, name_line, family_line, number_line, lines_of, end_to_end}
-use Rattle.front.specs.Placing.{Fits, placed, field_put_lem, names_put, numbers_put}
+use Rattle.front.specs.Placing.{Fits, field_put, names_put, numbers_put}
 use Rattle.front.proofs.Spaced.{blanks, field_long, lines_with, lines_without, run_whole}
 use Rattle.front.proofs.Signs.{addition_short, status_short}
 use Rattle.front.proofs.Placed.{placed_fits}
@@ -67,8 +67,8 @@ module _ (c : Content) (f : Fits c) where
         placed_fits 4 (value c 15) f.validity,
       )
 
-  pub fund_put : field_put_lem 28 (value c 0) ≡ field 28 (value c 0)
-  unfolding field_put_lem
+  pub fund_put : field_put 28 (value c 0) ≡ field 28 (value c 0)
+  unfolding field_put
   fund_put = placed_fits 28 (value c 0) (f.short 0 (omega arith))
 
 -- a run in its place of a room
@@ -82,11 +82,11 @@ names_long : (c : Content) (f : Fits c) → length (name_line c ++ family_line c
 names_long c f = omega (arith, length-append (name_line c) (family_line c), name_long c f, family_long c f)
 
 module _ (room first second : List ℕ) {third : List ℕ} (c : Content) (f : Fits c) (n : length room ≡ 112) where
-  pub filled_with : first ≡ room_with room 0 (names_put c) → second ≡ room_with first 56 (field_put_lem 28 (value c 0)) → third ≡ room_with second 84 (numbers_put c)
+  pub filled_with : first ≡ room_with room 0 (names_put c) → second ≡ room_with first 56 (field_put 28 (value c 0)) → third ≡ room_with second 84 (numbers_put c)
       → third ≡ end_to_end (lines_of true c)
   filled_with e g h =
       let a = run_at 0 (name_line c ++ family_line c) (names_put c) 56 e (names_put_lem c f) (names_long c f) (omega arith) in
-      let b = run_at 56 (field 28 (value c 0)) (field_put_lem 28 (value c 0)) 28 g (fund_put c f) (field_long 28 (value c 0) (f.short 0 (omega arith))) (omega (arith, same_size a)) in
+      let b = run_at 56 (field 28 (value c 0)) (field_put 28 (value c 0)) 28 g (fund_put c f) (field_long 28 (value c 0) (f.short 0 (omega arith))) (omega (arith, same_size a)) in
       let d = run_at 84 (number_line c) (numbers_put c) 28 h (numbers_put_lem c f) (number_long c f) (omega (arith, same_size a, same_size b)) in
       run_whole (put_then a (put_then b d)) (omega arith) ∙ lines_with c
 

@@ -1,5 +1,5 @@
 -- The names put part by part make the two name lines. Assumes nothing.
-use mathlib.Core.Path.{◌≡◌, refl, sym, ap, ◌∙◌}
+use mathlib.Core.Path.{◌≡◌, refl, ap, ◌∙◌}
 use mathlib.Core.Bool.{false}
 use mathlib.Core.List.{List, ◌++◌}
 use Prim.Native.Nat.{ℕ, ◌+◌, ◌-◌, ◌≤◌, ◌<◌}
@@ -13,7 +13,7 @@ use Rattle.ground.proofs.Puts.{put_then}
 use Rattle.card.specs.declared.Record.{Record}
 use Rattle.card.specs.Content.{Content, content_of}
 use Rattle.front.specs.Lines.{value, spaced, forenames, first_of, second_of, field, name_line}
-use Rattle.front.specs.Placing.{behind, placed, field_put_lem, names_put}
+use Rattle.front.specs.Placing.{behind, placed, field_put, names_put}
 use Rattle.front.proofs.Spaced.{item, field_long, spaced_behind, spaced_long, behind_more, one_line, two_lines, names_of, name_lines_of}
 use Rattle.front.proofs.Placed.{placed_long, fill_then, field_then, nothing, none_put, put_back}
 use Rattle.front.proofs.Long.{first_short}
@@ -98,7 +98,7 @@ module _ (r : Record) (room : List ℕ) (at : ℕ) (wide : at + 56 ≤ length ro
 
   pub two_there : {second third : List ℕ} {q s : ℕ} → length (forenames (content_of r)) ≤ 28 → 28 < length (spaced (forenames (content_of r)) (item r 9))
       → q ≡ behind_put first p (replicate (at + 28 - p) 0x20) → second ≡ room_with first p (replicate (at + 28 - p) 0x20)
-      → s ≡ behind_put second q (field_put_lem 28 (item r 9)) → third ≡ room_with second q (field_put_lem 28 (item r 9)) → Put room at (lines_put r) third s
+      → s ≡ behind_put second q (field_put 28 (item r 9)) → third ≡ room_with second q (field_put 28 (item r 9)) → Put room at (lines_put r) third s
   two_there k h e f g i =
       let left : at + 28 - p ≡ 28 - length (forenames (content_of r)) = omega (arith, names.place) in
       let line = fill_then (at + 28 - p) names e f (omega arith) in

@@ -7,7 +7,7 @@ use native.Mathlib.Nat.{le_of_suc-le-suc, not-suc-le-zero}
 use native.Mathlib.Omega.{arith}
 use borrow.Author.Tests.{eqb-true, eqb-false, ne_eqb, leb-true}
 use lib.Dec.{eqb, leb}
-use lib.ListN.{length, get_or, take, replicate, length-append}
+use lib.ListN.{length, get_or, take, replicate}
 use Rattle.ground.specs.Lists.{among, leading}
 use Rattle.ground.specs.Pieces.{joined}
 use Rattle.ground.proofs.Lists.{true_false, and_left, and_right}

@@ -4,31 +4,34 @@
 #![tactic(auto)]
 
 use edition::Edition;
-use libc::{STDIN_FILENO, STDOUT_FILENO};
+use files::Outside;
 
-fn list_input(edition: Edition) {
+fn list_input<R: Outside>(rt: &R, edition: Edition) {
     // One byte more than a card has: a card with something behind it is none.
     let mut image = [0u8; 257];
-    let length = io::read_full(STDIN_FILENO, &mut image);
+    let length = files::read_full(&mut rt.reader(), &mut image);
     let mut room = [0u8; 521];
     let size = listing::list(edition, &image[..length], &mut room);
-    io::write_all(STDOUT_FILENO, &room[..size]);
+    files::write_all(rt, &room[..size]);
 }
 
 // The edition with this number, 1 or 2; of another number nothing is read.
-fn list_under(number: u64) {
+fn list_under<R: Outside>(rt: &R, number: u64) {
     match number {
-        1 => list_input(Edition::TERMINAL),
-        2 => list_input(Edition::ISSUE),
+        1 => list_input(rt, Edition::TERMINAL),
+        2 => list_input(rt, Edition::ISSUE),
         _ => {
-            io::write_all(STDOUT_FILENO, b"REFUSED 2 0 00 0 0\n");
+            files::write_all(rt, b"REFUSED 2 0 00 0 0\n");
         }
     }
 }
 
-fn main() {
+fn main(rt: HostRuntime) {
     // An argument that is longer than the room is told as one of no bytes, which is no name.
     let mut word = [0u8; 8];
-    let length = os::arg(1, &mut word);
-    list_under(files::choose(os::arg_count() > 1, &word[..length]));
+    let length = files::arg(&rt, 1, &mut word);
+    list_under(
+        &rt,
+        files::choose(files::arg_count(&rt) > 1, &word[..length]),
+    );
 }

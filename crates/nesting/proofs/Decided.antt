@@ -1,9 +1,9 @@
 -- The decision is nesting, and its answer says which row and which clause; issue is nested in terminal by it. Assumes nothing.
-use Prim.Native.Nat.{ℕ, zero, suc}
+use Prim.Native.Nat.{ℕ, suc}
 use native.Mathlib.Omega.{arith}
 use mathlib.Core.Path.{◌≡◌, refl, sym, ap, ◌∙◌}
 use mathlib.Core.Logic.{◌↔◌}
-use mathlib.Core.Bool.{Bool, true, false, cond, not, ◌&&◌, ◌||◌}
+use mathlib.Core.Bool.{Bool, true, false, cond, not, ◌||◌}
 use mathlib.Core.List.{List, [], ◌∷◌}
 use lib.Bits.{bit_and}
 use lib.Dec.{eqb}
@@ -14,7 +14,7 @@ use Rattle.edition.specs.declared.Edition.{Edition}
 use Rattle.edition.specs.declared.Formed.{Formed}
 use Rattle.edition.specs.declared.Formed.TheVariants.{Well, Bad, Unnumbered}
 use Rattle.edition.specs.Sets.{permitted}
-use Rattle.edition.specs.Rows.{set_formed, row_formed, formed_from, formed_of}
+use Rattle.edition.specs.Rows.{row_formed, formed_from, formed_of}
 use Rattle.edition.specs.Tables.{table, terminal, issue}
 use Rattle.edition.proofs.Rows.{Within28, row_within, formed_rows, formed_head}
 use Rattle.ground.proofs.Lists.{true_false}
@@ -120,10 +120,14 @@ nesting_said i o l = go (is_well (formed_of i)) (is_well (formed_of o)) refl ref
 apart_not : (k j c : ℕ) (is os : List Row) → Apart k is os j c → NestedRows is os → ⊥
 apart_not k j c (i ∷ is) (o ∷ os) (here f) (one-row w n) = not_within i o c f w
 apart_not k j c (i ∷ is) (o ∷ os) (later v a) (one-row w n) = apart_not (suc k) j c is os a n
+apart_not k j c [] os x'' _ = elim x'' [ ]
+apart_not k j c (i ∷ is) [] x5 _ = elim x5 [ ]
 
 rows_length : (is os : List Row) → NestedRows is os → length is ≡ length os
 rows_length [] [] no_rows = refl
 rows_length (i ∷ is) (o ∷ os) (one-row w n) = ap suc (rows_length is os n)
+rows_length [] (o ∷ os) x'' = elim x'' [ ]
+rows_length (i ∷ is) [] x3 = elim x3 [ ]
 
 -- no clause fails only where the rows are as many
 none_fails : (k : ℕ) (is os : List Row) → formed_from k is ≡ Well → formed_from k os ≡ Well → (nesting_from k is os).clause ≡ 0 → length is ≡ length os

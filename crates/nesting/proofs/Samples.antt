@@ -6,7 +6,7 @@ use mathlib.Core.Bool.{Bool, true, false, cond, not, ◌&&◌, ◌||◌}
 use mathlib.Core.List.{List, [], ◌∷◌}
 use lib.Count.{count_trailing_zeros}
 use lib.ListN.{length, get_or, replicate, length-replicate}
-use lib.Dec.{eqb, leb, ltb}
+use lib.Dec.{eqb, leb}
 use borrow.Author.Tests.{eqb-true}
 use Rattle.rules.specs.declared.Rule.{Rule}
 use Rattle.rules.specs.declared.Rule.TheVariants.{Digits, Text, Lead, Code, Birth, Expiry, Raw, NotD}
@@ -19,7 +19,7 @@ use Rattle.edition.specs.declared.Row.{Row}
 use Rattle.edition.specs.Sets.{permitted, only, shortest_of}
 use Rattle.edition.specs.Rows.{set_formed, by_rule, row_formed}
 use Rattle.edition.proofs.Sets.{Least, shortest_least, never_0}
-use Rattle.edition.proofs.Rows.{Within28, set_within, LastRow, last_formed}
+use Rattle.edition.proofs.Rows.{Within28, set_within, last_formed}
 use Rattle.nesting.specs.Decision.{number_of, numbers_in, rule_in, by_name, witness_of, value_of}
 use Rattle.nesting.specs.Answers.{Against}
 

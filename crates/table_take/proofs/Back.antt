@@ -2,18 +2,17 @@
 use Prim.Native.Nat.{ℕ, suc, ◌+◌, ◌^◌, ◌<◌}
 use native.Mathlib.Omega.{arith}
 use borrow.Author.Tests.{le-ltb}
-use mathlib.Core.Path.{◌≡◌, refl, ap, ◌∙◌}
+use mathlib.Core.Path.{◌≡◌, refl, ◌∙◌}
 use mathlib.Core.List.{List, [], ◌∷◌, ◌++◌, append_assoc}
 use lib.ListN.{length, length-append, get_or, replicate}
 use lib.Seq.{set_at}
 use Rattle.edition.specs.declared.Row.{Row}
-use Rattle.edition.specs.declared.Edition.{Edition}
 use Rattle.edition.specs.Rows.{no_row}
 use Rattle.table_text.specs.Texts.{row_text, rows_text, head_text, table_text}
 use Rattle.table_take.specs.declared.Taking.{Taking}
 use Rattle.table_take.specs.Splitting.{lines}
-use Rattle.table_take.specs.Taking.{taking, no_rows, with_line, finished, taken_from, taken}
-use Rattle.table_take.specs.Backs.{Held, took_all, TextBack}
+use Rattle.table_take.specs.Taking.{taking, with_line, finished, taken_from, taken}
+use Rattle.table_take.specs.Backs.{took_all, TextBack}
 use Rattle.table_take.proofs.Signs.{line_flat}
 use Rattle.table_take.proofs.RowsBack.{row_line, row_text_lem, row_flat, with_row, head_line, head_text_lem, head_flat, with_head}
 

@@ -1,13 +1,12 @@
 -- The line of a row, from its text: five words, each taken as it was put. Assumes nothing.
-use Prim.Native.Nat.{ℕ, ◌+◌, ◌-◌, ◌^◌, ◌≤◌, ◌<◌}
+use Prim.Native.Nat.{ℕ, ◌+◌, ◌-◌, ◌^◌, ◌<◌}
 use native.Mathlib.Nat.{mod-eq_of_lt}
 use native.Mathlib.Omega.{arith}
 use borrow.Author.Tests.{eq-eqb, ne_eqb, lt-ltb, le-ltb}
-use mathlib.Core.Path.{◌≡◌, refl, ◌∙◌}
-use mathlib.Core.Bool.{Bool, true, false, cond}
+use mathlib.Core.Path.{◌≡◌, refl}
+use mathlib.Core.Bool.{Bool, true, false}
 use mathlib.Core.List.{List, [], ◌∷◌, ◌++◌, append_assoc}
-use lib.Dec.{eqb}
-use lib.ListN.{length, get_or, set}
+use lib.ListN.{length, set}
 use Rattle.ground.specs.Lists.{leading, same_list}
 use Rattle.ground.specs.Rooms.{hex, decimal}
 use Rattle.rules.specs.declared.Rule.{Rule}
@@ -17,12 +16,11 @@ use Rattle.edition.specs.Rows.{tag_of}
 use Rattle.table_text.specs.Vocabulary.{vocabulary, word_of}
 use Rattle.table_text.specs.Texts.{lengths_text, rule_word, presence_word, spaced, front_text, kind_text, set_text, row_text, head_text}
 use Rattle.table_take.specs.declared.Fields.{Fields}
-use Rattle.table_take.specs.Splitting.{is_blank, is_kind, lines, words, through}
-use Rattle.table_take.specs.Numbers.{number_of}
+use Rattle.table_take.specs.Splitting.{is_kind, words, through}
 use Rattle.table_take.specs.LengthSets.{listed, lengths_of}
 use Rattle.table_take.specs.Words.{fields, no_fields, rule_found, head_word, with_presence, with_rule, with_lengths, row_word, word_taken, missing, words_taken, line_taken}
 use Rattle.table_take.specs.Taking.{rule_by, is_remark, taking, no_rows, row_told, stored, with_line}
-use Rattle.table_take.proofs.Signs.{Among, none, more, among_append, among_wider, Word, not_blank, line_flat, word_then, word_alone}
+use Rattle.table_take.proofs.Signs.{Among, none, more, among_append, among_wider, Word, not_blank, word_then, word_alone}
 use Rattle.table_take.proofs.Decimals.{decimal_back, decimal_digits, decimal_some}
 use Rattle.table_take.proofs.Spelled.{same_self, word_word, word_signs, tag_signs, edition_signs}
 use Rattle.table_take.proofs.SetsBack.{lengths_back, lengths_word}

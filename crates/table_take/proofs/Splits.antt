@@ -2,16 +2,16 @@
 use Prim.Native.Nat.{ℕ, zero, suc, ◌+◌, ◌-◌, ◌≤◌, ◌<◌}
 use native.Mathlib.Numerals.{add-one}
 use native.Mathlib.Omega.{arith}
-use mathlib.Core.Path.{◌≡◌, refl, sym, ap, ◌∙◌}
+use mathlib.Core.Path.{◌≡◌, refl, ◌∙◌}
 use mathlib.Core.Bool.{Bool, true, false, cond, not}
-use mathlib.Core.List.{List, [], ◌∷◌, ◌++◌}
+use mathlib.Core.List.{List, [], ◌∷◌}
 use lib.Dec.{eqb}
 use lib.ListN.{length, get_or, take, drop, length-drop, drop_of_length-le, get_or-eq_default}
 use lib.Seq.{drop-cons, drop-drop}
 use Rattle.ground.specs.Lists.{leading}
 use Rattle.table_take.specs.declared.Kind.TheVariants.{Blanks, Signs, Line}
 use Rattle.table_take.specs.Taking.{is_remark}
-use Rattle.table_take.specs.Splitting.{is_blank, is_kind, behind_kind, before, begins, lines, words, through}
+use Rattle.table_take.specs.Splitting.{is_blank, is_kind, behind_kind, before, lines, words, through}
 
 -- ---- going through a list
 module _ {A B : Type 0} (f : A → B → A) (d : B) (xs : List B) (i : ℕ) where

@@ -1,5 +1,5 @@
 -- A text is lines, and a line is words with blanks between them.
-use Rattle.std.specs.Prelude.{ℕ, ◌+◌, Bool, true, false, cond, not, ◌||◌, List, [], ◌∷◌, eqb, drop}
+use Rattle.std.specs.Prelude.{ℕ, ◌+◌, Bool, false, cond, not, ◌||◌, List, [], ◌∷◌, eqb, drop}
 use Rattle.ground.specs.Lists.{leading}
 use Rattle.table_take.specs.declared.Kind.{Kind}
 use Rattle.table_take.specs.declared.Kind.TheVariants.{Blanks, Signs, Line}

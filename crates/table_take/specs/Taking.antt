@@ -1,7 +1,6 @@
 -- A table from its text: `edition` and its number, then the rows in card order; lines that are blank or start with # are skipped. What is wrong,
 -- beyond the words of a line: 11 the text goes on behind the last row, 12 it ends before it.
-use Rattle.std.specs.Prelude.{ℕ, suc, ◌+◌, ◌-◌, Bool, cond, List, [], ◌∷◌, eqb, ltb, get_or, drop, set, replicate}
-use Rattle.ground.specs.Lists.{leading}
+use Rattle.std.specs.Prelude.{ℕ, suc, ◌+◌, ◌-◌, Bool, cond, List, [], ◌∷◌, eqb, ltb, get_or, set, replicate}
 use Rattle.rules.specs.declared.Rule.{Rule}
 use Rattle.rules.specs.declared.Rule.TheVariants.{Digits, Text, Lead, Code, Birth, Expiry, Raw, NotD}
 use Rattle.edition.specs.declared.Row.{Row}

@@ -8,6 +8,7 @@ mod wrong;
 ghost use Rattle.std.specs.Prelude.{◌<◌};
 
 use edition::Edition;
+use files::Outside;
 
 // The edition, if the status is words::DONE; else how the run ends.
 #[derive(Clone, Copy)]
@@ -28,13 +29,13 @@ fn none(status: u8) -> Chosen
 }
 
 // The edition of a text, whose file has this name.
-fn take(name: &[u8], text: &[u8]) -> Chosen
+fn take<R: Outside>(rt: &R, name: &[u8], text: &[u8]) -> Chosen
     ensures { result.status < 4 }
 {
     let taken = take_lines::take(text);
     let edition = taken.edition;
     if taken.wrong != 0 {
-        wrong::say_wrong(name, taken.line, taken.wrong, taken.due);
+        wrong::say_wrong(rt, name, taken.line, taken.wrong, taken.due);
         return none(words::FAILED);
     }
     Chosen {
@@ -44,24 +45,23 @@ fn take(name: &[u8], text: &[u8]) -> Chosen
 }
 
 // The edition in a file.
-fn read(name: &[u8]) -> Chosen
+fn read<R: Outside>(rt: &R, name: &[u8]) -> Chosen
     ensures { result.status < 4 }
 {
-    let file = files::open(name);
-    if file < 0 {
-        words::say(b"an edition is terminal, issue, or the file of a table");
+    let Some(mut file) = files::open(rt, name) else {
+        words::say(rt, b"an edition is terminal, issue, or the file of a table");
         return none(words::FAILED);
-    }
-    let mut text = io::large_buffer();
-    let size = io::read_full(file, &mut text);
+    };
+    let mut text = [0u8; 65536];
+    let size = files::read_full(&mut file, &mut text);
     if size > 65535 {
-        words::say(b"the text of a table has at most 65535 bytes");
+        words::say(rt, b"the text of a table has at most 65535 bytes");
         return none(words::FAILED);
     }
-    take(name, &text[..size])
+    take(rt, name, &text[..size])
 }
 
-fn find(name: &[u8]) -> Chosen
+fn find<R: Outside>(rt: &R, name: &[u8]) -> Chosen
     ensures { result.status < 4 }
 {
     let number = files::edition_named(name);
@@ -71,26 +71,26 @@ fn find(name: &[u8]) -> Chosen
             edition: words::edition_by(number),
         };
     }
-    read(name)
+    read(rt, name)
 }
 
 // The edition that word i names; a word that begins with a minus sign, as an option does, names none.
-pub fn edition_at(i: usize) -> Chosen
+pub fn edition_at<R: Outside>(rt: &R, i: usize) -> Chosen
     ensures { result.status < 4 }
 {
-    let mut name = io::buffer();
-    let length = os::arg(i, &mut name);
+    let mut name = [0u8; 4096];
+    let length = files::arg(rt, i, &mut name);
     if ground_parts::byte_at(&name[..length], 0) == b'-' {
-        return none(words::misused(b"an edition is terminal, issue, or the file of a table"));
+        return none(words::misused(rt, b"an edition is terminal, issue, or the file of a table"));
     }
-    find(&name[..length])
+    find(rt, &name[..length])
 }
 
 // The edition that word i names; a minus sign names a table on standard input.
-pub fn table_at(i: usize) -> Chosen
+pub fn table_at<R: Outside>(rt: &R, i: usize) -> Chosen
     ensures { result.status < 4 }
 {
-    let mut name = io::buffer();
-    let length = os::arg(i, &mut name);
-    find(&name[..length])
+    let mut name = [0u8; 4096];
+    let length = files::arg(rt, i, &mut name);
+    find(rt, &name[..length])
 }

@@ -2,43 +2,44 @@
 ghost use Rattle.std.specs.Prelude.{◌<◌};
 
 use edition::Edition;
+use files::Outside;
+use std::io::Read;
 
 // Lists the card in an open file.
-fn list_card(edition: Edition, file: i32) -> u8
+fn list_card<R: Outside>(rt: &R, edition: Edition, file: &mut impl Read) -> u8
     ensures { result < 4 }
 {
     // One byte more than a card has: a card with something behind it is none.
     let mut image = [0u8; 257];
-    let length = io::read_full(file, &mut image);
-    words::list_image(edition, &image[..length])
+    let length = files::read_full(file, &mut image);
+    words::list_image(rt, edition, &image[..length])
 }
 
 // Lists the card in the file that word i names.
-fn list_file(edition: Edition, i: usize) -> u8
+fn list_file<R: Outside>(rt: &R, edition: Edition, i: usize) -> u8
     ensures { result < 4 }
 {
-    let mut path = io::buffer();
-    let length = os::arg(i, &mut path);
-    let file = files::open(&path[..length]);
-    if file < 0 {
+    let mut path = [0u8; 4096];
+    let length = files::arg(rt, i, &mut path);
+    let Some(mut file) = files::open(rt, &path[..length]) else {
         return words::FAILED;
-    }
-    list_card(edition, file)
+    };
+    list_card(rt, edition, &mut file)
 }
 
-pub(crate) fn run() -> u8
+pub(crate) fn run<R: Outside>(rt: &R) -> u8
     ensures { result < 4 }
 {
-    let words = os::arg_count();
+    let words = files::arg_count(rt);
     if words == 3 {
-        return list_file(words::default_edition(), 2);
+        return list_file(rt, words::default_edition(), 2);
     }
     if words != 4 {
-        return words::misused(b"list takes one file, and before it an edition");
+        return words::misused(rt, b"list takes one file, and before it an edition");
     }
-    let chosen = tables::edition_at(2);
+    let chosen = tables::edition_at(rt, 2);
     if chosen.status != words::DONE {
         return chosen.status;
     }
-    list_file(chosen.edition, 3)
+    list_file(rt, chosen.edition, 3)
 }

@@ -3,7 +3,8 @@ ghost use Rattle.std.specs.Prelude.{◌<◌, ◌≤◌};
 
 use crate::counts::Counts;
 use edition::Edition;
-use libc::STDOUT_FILENO;
+use files::Outside;
+use itoa::Buffer;
 
 // Where the listings end, and how many cards were accepted and refused by then.
 #[derive(Clone, Copy)]
@@ -25,8 +26,8 @@ fn part(bytes: &[u8], start: usize, end: usize) -> &[u8] {
 }
 
 // Writes the first bytes of a room.
-pub(crate) fn write_first(room: &[u8], size: usize) -> bool {
-    io::write_all(STDOUT_FILENO, part(room, 0, size))
+pub(crate) fn write_first<R: Outside>(rt: &R, room: &[u8], size: usize) -> bool {
+    files::write_all(rt, part(room, 0, size))
 }
 
 // Where the image at `at` ends, in a piece of this length: 256 bytes on, or with the piece.
@@ -42,10 +43,9 @@ fn put_number(room: &mut [u8], at: usize, numbered: bool, number: u64) -> usize 
     if !numbered {
         return at;
     }
-    let mut digits = [0u8; 20];
-    let count = io::decimal(number, &mut digits);
+    let mut digits = Buffer::new();
     let start = ground_room::put(room, at, b"CARD ");
-    let end = ground_room::put(room, start, &digits[..count]);
+    let end = ground_room::put(room, start, digits.format(number).as_bytes());
     ground_room::put(room, end, b"\n")
 }
 

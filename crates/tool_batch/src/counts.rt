@@ -1,7 +1,7 @@
 // How many cards were accepted and refused.
 ghost use Rattle.std.specs.Prelude.{◌<◌};
 
-use libc::STDERR_FILENO;
+use files::Outside;
 
 #[derive(Clone, Copy)]
 pub(crate) struct Counts {
@@ -33,50 +33,56 @@ impl Counts {
     }
 }
 
-fn put(text: &[u8]) {
-    io::write_all(STDERR_FILENO, text);
+fn put<R: Outside>(rt: &R, text: &[u8]) {
+    files::write_all(&rt.stderr(), text);
 }
 
-fn put_cards(counts: Counts) {
+fn put_cards<R: Outside>(rt: &R, counts: Counts) {
     let cards = counts.cards();
-    io::print_decimal(STDERR_FILENO, cards);
+    files::print_decimal(&rt.stderr(), cards);
     if cards == 1 {
-        put(b" card");
+        put(rt, b" card");
     } else {
-        put(b" cards");
+        put(rt, b" cards");
     }
 }
 
 // Says how far a run is, in a line that the next one replaces.
-pub(crate) fn say_progress(progress: bool, accepted: u64, refused: u64) {
+pub(crate) fn say_progress<R: Outside>(rt: &R, progress: bool, accepted: u64, refused: u64) {
     if progress {
-        put(b"\rkvk: ");
-        put_cards(Counts { accepted, refused });
-        put(b" so far");
+        put(rt, b"\rkvk: ");
+        put_cards(rt, Counts { accepted, refused });
+        put(rt, b" so far");
     }
 }
 
 // Says the counts, and answers how the run ends.
-pub(crate) fn say_counts(accepted: u64, refused: u64, path: &[u8], progress: bool) -> u8
+pub(crate) fn say_counts<R: Outside>(
+    rt: &R,
+    accepted: u64,
+    refused: u64,
+    path: &[u8],
+    progress: bool,
+) -> u8
     ensures { result < 4 }
 {
     if progress {
-        put(b"\r");
+        put(rt, b"\r");
     }
     let counts = Counts { accepted, refused };
     if counts.cards() == 0 {
-        put(b"kvk: there is no card in ");
-        put(path);
-        put(b"\n");
+        put(rt, b"kvk: there is no card in ");
+        put(rt, path);
+        put(rt, b"\n");
         return words::DONE;
     }
-    put(b"kvk: ");
-    put_cards(counts);
-    put(b", ");
-    io::print_decimal(STDERR_FILENO, counts.accepted);
-    put(b" accepted, ");
-    io::print_decimal(STDERR_FILENO, counts.refused);
-    put(b" refused\n");
+    put(rt, b"kvk: ");
+    put_cards(rt, counts);
+    put(rt, b", ");
+    files::print_decimal(&rt.stderr(), counts.accepted);
+    put(rt, b" accepted, ");
+    files::print_decimal(&rt.stderr(), counts.refused);
+    put(rt, b" refused\n");
     if counts.refused == 0 {
         words::DONE
     } else {

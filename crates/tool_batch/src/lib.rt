@@ -10,8 +10,10 @@ ghost use Rattle.std.specs.Prelude.{◌<◌};
 
 use counts::Counts;
 use edition::Edition;
+use files::Outside;
+use std::io::Read;
 
-// A piece of the input has 100 images, whose listings of at most 521 bytes, with their numbers, fit `io::large_buffer`.
+// A piece of the input has 100 images, whose listings of at most 521 bytes, with their numbers, fit 65,536 bytes.
 const PIECE: usize = 100 * 256;
 
 // How a run stands: whether the input goes on, whether all was written, and how many cards were accepted and refused.
@@ -24,12 +26,18 @@ struct Stand {
 }
 
 // Reads a piece and writes its listings.
-fn list_piece(edition: Edition, numbered: bool, file: i32, counts: Counts) -> Stand {
+fn list_piece<R: Outside>(
+    rt: &R,
+    edition: Edition,
+    numbered: bool,
+    file: &mut impl Read,
+    counts: Counts,
+) -> Stand {
     let mut piece = [0u8; PIECE];
-    let length = io::read_full(file, &mut piece);
-    let mut room = io::large_buffer();
+    let length = files::read_full(file, &mut piece);
+    let mut room = [0u8; 65536];
     let listed = cards::put_cards(&mut room, edition, &piece[..length], numbered, counts);
-    let written = cards::write_first(&room, listed.size);
+    let written = cards::write_first(rt, &room, listed.size);
     Stand {
         goes_on: written & (length == PIECE),
         written,
@@ -39,7 +47,13 @@ fn list_piece(edition: Edition, numbered: bool, file: i32, counts: Counts) -> St
 }
 
 // Nothing says that the input ends, so the loop counts its turns down, from a number that no run uses up.
-fn list_all(edition: Edition, numbered: bool, progress: bool, file: i32) -> Stand {
+fn list_all<R: Outside>(
+    rt: &R,
+    edition: Edition,
+    numbered: bool,
+    progress: bool,
+    file: &mut impl Read,
+) -> Stand {
     let mut stand = Stand {
         goes_on: true,
         written: true,
@@ -49,6 +63,7 @@ fn list_all(edition: Edition, numbered: bool, progress: bool, file: i32) -> Stan
     let mut turns = u64::MAX;
     while turns > 0 {
         stand = list_piece(
+            rt,
             edition,
             numbered,
             file,
@@ -60,81 +75,83 @@ fn list_all(edition: Edition, numbered: bool, progress: bool, file: i32) -> Stan
         if !stand.goes_on {
             return stand;
         }
-        counts::say_progress(progress, stand.accepted, stand.refused);
+        counts::say_progress(rt, progress, stand.accepted, stand.refused);
         turns -= 1;
     }
     stand
 }
 
 // Lists the cards in the file that word i names.
-fn list_file(edition: Edition, numbered: bool, progress: bool, i: usize) -> u8
+fn list_file<R: Outside>(rt: &R, edition: Edition, numbered: bool, progress: bool, i: usize) -> u8
     ensures { result < 4 }
 {
-    let mut path = io::buffer();
-    let length = os::arg(i, &mut path);
-    let file = files::open(&path[..length]);
-    if file < 0 {
+    let mut path = [0u8; 4096];
+    let length = files::arg(rt, i, &mut path);
+    let Some(mut file) = files::open(rt, &path[..length]) else {
         return words::FAILED;
-    }
-    let stand = list_all(edition, numbered, progress, file);
+    };
+    let stand = list_all(rt, edition, numbered, progress, &mut file);
     if !stand.written {
-        return words::written(false);
+        return words::written(rt, false);
     }
-    counts::say_counts(stand.accepted, stand.refused, &path[..length], progress)
+    counts::say_counts(rt, stand.accepted, stand.refused, &path[..length], progress)
 }
 
-fn word_is(i: usize, text: &[u8]) -> bool {
+fn word_is<R: Outside>(rt: &R, i: usize, text: &[u8]) -> bool {
     let mut word = [0u8; 16];
-    let length = os::arg(i, &mut word);
+    let length = files::arg(rt, i, &mut word);
     ground_parts::is_same(&word[..length], text)
 }
 
-fn misused() -> u8
+fn misused<R: Outside>(rt: &R) -> u8
     ensures { result < 4 }
 {
-    words::misused(b"batch takes one file, and before it --numbered, and an edition")
+    words::misused(
+        rt,
+        b"batch takes one file, and before it --numbered, and an edition",
+    )
 }
 
 // The words from i on: the file is the last of them, and an edition stands before it, or none.
-fn run_from(i: usize, numbered: bool, progress: bool) -> u8
+fn run_from<R: Outside>(rt: &R, i: usize, numbered: bool, progress: bool) -> u8
     ensures { result < 4 }
 {
-    let count = os::arg_count();
+    let count = files::arg_count(rt);
     if count < i {
-        return misused();
+        return misused(rt);
     }
     let left = count - i;
     if left == 1 {
-        return list_file(words::default_edition(), numbered, progress, i);
+        return list_file(rt, words::default_edition(), numbered, progress, i);
     }
     if left != 2 {
-        return misused();
+        return misused(rt);
     }
-    let chosen = tables::edition_at(i);
+    let chosen = tables::edition_at(rt, i);
     if chosen.status != words::DONE {
         return chosen.status;
     }
-    list_file(chosen.edition, numbered, progress, i % 8 + 1)
+    list_file(rt, chosen.edition, numbered, progress, i % 8 + 1)
 }
 
 // The words behind --progress.
-fn run_watched() -> u8
+fn run_watched<R: Outside>(rt: &R) -> u8
     ensures { result < 4 }
 {
-    if word_is(3, b"--numbered") {
-        return run_from(4, true, true);
+    if word_is(rt, 3, b"--numbered") {
+        return run_from(rt, 4, true, true);
     }
-    run_from(3, false, true)
+    run_from(rt, 3, false, true)
 }
 
-pub fn run() -> u8
+pub fn run<R: Outside>(rt: &R) -> u8
     ensures { result < 4 }
 {
-    if word_is(2, b"--progress") {
-        return run_watched();
+    if word_is(rt, 2, b"--progress") {
+        return run_watched(rt);
     }
-    if word_is(2, b"--numbered") {
-        return run_from(3, true, false);
+    if word_is(rt, 2, b"--numbered") {
+        return run_from(rt, 3, true, false);
     }
-    run_from(2, false, false)
+    run_from(rt, 2, false, false)
 }

@@ -1,25 +1,27 @@
 // Files and numbers that words of the command line name.
-// Opens the file that word i names and answers its descriptor, or -1.
-pub(crate) fn open_at(i: usize) -> i32 {
-    let mut path = io::buffer();
-    let length = os::arg(i, &mut path);
-    files::open(&path[..length])
+use files::{Outside, Source};
+
+// Opens the file that word i names, if it can be.
+pub(crate) fn open_at<R: Outside>(rt: &R, i: usize) -> Option<Source<R::Reader, R::File>> {
+    let mut path = [0u8; 4096];
+    let length = files::arg(rt, i, &mut path);
+    files::open(rt, &path[..length])
 }
 
 // Writes the first bytes of a room to the file that word i names, and answers the status of that.
-pub(crate) fn write_file(i: usize, room: &[u8], size: usize) -> bool {
-    let mut path = io::buffer();
-    let length = os::arg(i, &mut path);
+pub(crate) fn write_file<R: Outside>(rt: &R, i: usize, room: &[u8], size: usize) -> bool {
+    let mut path = [0u8; 4096];
+    let length = files::arg(rt, i, &mut path);
     if size > room.len() {
         return false;
     }
-    files::write(&path[..length], &room[..size])
+    files::write(rt, &path[..length], &room[..size])
 }
 
 // The number that word i writes in at most four digits; 10,000 where it is no such word.
-pub(crate) fn number_at(i: usize) -> usize {
+pub(crate) fn number_at<R: Outside>(rt: &R, i: usize) -> usize {
     let mut word = [0u8; 4];
-    let length = os::arg(i, &mut word);
+    let length = files::arg(rt, i, &mut word);
     let mut number: usize = 0;
     let mut k: usize = 0;
     while k < 4 {

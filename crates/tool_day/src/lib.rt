@@ -10,34 +10,37 @@ mod refusals;
 
 ghost use Rattle.std.specs.Prelude.{◌<◌};
 
+use files::Outside;
+
 // The commands that have so many words, the program's name and `day` among them.
-fn run_command(name: &[u8], words: usize) -> u8
+fn run_command<R: Outside>(rt: &R, name: &[u8], words: usize) -> u8
     ensures { result < 4 }
 {
     if (words > 3) & ground_parts::is_same(name, b"build") {
-        return changes::build(words);
+        return changes::build(rt, words);
     }
     if (words == 5) & ground_parts::is_same(name, b"add") {
-        return changes::add();
+        return changes::add(rt);
     }
     if (words == 4) & ground_parts::is_same(name, b"list") {
-        return looks::list();
+        return looks::list(rt);
     }
     if (words == 5) & ground_parts::is_same(name, b"find") {
-        return looks::find();
+        return looks::find(rt);
     }
     if (words == 6) & ground_parts::is_same(name, b"get") {
-        return looks::get();
+        return looks::get(rt);
     }
     words::misused(
+        rt,
         b"day takes build OUT CARD.., add FILE CARD, list FILE, find FILE NUMBER or get FILE POSITION OUT",
     )
 }
 
-pub fn run() -> u8
+pub fn run<R: Outside>(rt: &R) -> u8
     ensures { result < 4 }
 {
     let mut name = [0u8; 16];
-    let length = os::arg(2, &mut name);
-    run_command(&name[..length], os::arg_count())
+    let length = files::arg(rt, 2, &mut name);
+    run_command(rt, &name[..length], files::arg_count(rt))
 }

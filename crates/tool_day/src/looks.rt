@@ -4,40 +4,40 @@ ghost use Rattle.std.specs.Prelude.{◌<◌};
 use crate::{inputs, refusals};
 use card::Object;
 use edition::Edition;
-use libc::STDOUT_FILENO;
+use files::Outside;
 
 // Writes the first bytes of a value behind a blank.
-fn show_bytes(bytes: &[u8], length: usize) {
+fn show_bytes<R: Outside>(rt: &R, bytes: &[u8], length: usize) {
     if length > bytes.len() {
         return;
     }
-    io::write_all(STDOUT_FILENO, b" ");
-    io::write_all(STDOUT_FILENO, &bytes[..length]);
+    files::write_all(rt, b" ");
+    files::write_all(rt, &bytes[..length]);
 }
 
 // Writes the value of an object that is there.
-fn show_value(item: Object) {
+fn show_value<R: Outside>(rt: &R, item: Object) {
     let bytes = item.bytes;
     if item.length != 0 {
-        show_bytes(&bytes, item.length as usize);
+        show_bytes(rt, &bytes, item.length as usize);
     }
 }
 
 // Writes the line of a card: position, insured number, name.
-fn show_card(position: usize, image: &[u8]) -> bool {
+fn show_card<R: Outside>(rt: &R, position: usize, image: &[u8]) -> bool {
     let reading = reader::read(Edition::TERMINAL, image);
     let content = reading.content;
-    io::print_decimal(STDOUT_FILENO, position as u64);
-    show_value(content.objects[3]);
-    show_value(content.objects[6]);
-    show_value(content.objects[7]);
-    show_value(content.objects[8]);
-    show_value(content.objects[9]);
-    io::write_all(STDOUT_FILENO, b"\n")
+    files::print_decimal(rt, position as u64);
+    show_value(rt, content.objects[3]);
+    show_value(rt, content.objects[6]);
+    show_value(rt, content.objects[7]);
+    show_value(rt, content.objects[8]);
+    show_value(rt, content.objects[9]);
+    files::write_all(rt, b"\n")
 }
 
 // Writes the lines of so many cards.
-fn show_cards(count: usize, file: &[u8]) -> u8
+fn show_cards<R: Outside>(rt: &R, count: usize, file: &[u8]) -> u8
     ensures { result < 4 }
 {
     let mut is_written = true;
@@ -48,99 +48,96 @@ fn show_cards(count: usize, file: &[u8]) -> u8
         }
         let at = k * 256;
         let end = at + 256;
-        is_written = is_written & show_card(k, &file[at..end]);
+        is_written = is_written & show_card(rt, k, &file[at..end]);
         k += 1;
     }
-    words::written(is_written)
+    words::written(rt, is_written)
 }
 
-fn list_cards(file: &[u8]) -> u8
+fn list_cards<R: Outside>(rt: &R, file: &[u8]) -> u8
     ensures { result < 4 }
 {
     let answer = day_read::count(file);
     let refusal = answer.refusal;
     if refusal.number != 0 {
-        return refusals::tell(refusal, file);
+        return refusals::tell(rt, refusal, file);
     }
-    show_cards(answer.value, file)
+    show_cards(rt, answer.value, file)
 }
 
 // Lists the cards of the file that word 3 names.
-pub(crate) fn list() -> u8
+pub(crate) fn list<R: Outside>(rt: &R) -> u8
     ensures { result < 4 }
 {
-    let source = inputs::open_at(3);
-    if source < 0 {
+    let Some(mut source) = inputs::open_at(rt, 3) else {
         return words::FAILED;
-    }
-    let mut file = io::large_buffer();
-    let size = io::read_full(source, &mut file);
-    list_cards(&file[..size])
+    };
+    let mut file = [0u8; 65536];
+    let size = files::read_full(&mut source, &mut file);
+    list_cards(rt, &file[..size])
 }
 
-fn find_number(file: &[u8], number: &[u8]) -> u8
+fn find_number<R: Outside>(rt: &R, file: &[u8], number: &[u8]) -> u8
     ensures { result < 4 }
 {
     let answer = day_find::find(file, number);
     let refusal = answer.refusal;
     if refusal.number != 0 {
-        return refusals::tell(refusal, file);
+        return refusals::tell(rt, refusal, file);
     }
-    io::write_all(STDOUT_FILENO, b"FOUND ");
-    io::print_decimal(STDOUT_FILENO, answer.value as u64);
-    words::written(io::write_all(STDOUT_FILENO, b"\n"))
+    files::write_all(rt, b"FOUND ");
+    files::print_decimal(rt, answer.value as u64);
+    words::written(rt, files::write_all(rt, b"\n"))
 }
 
 // Finds the number that word 4 is in the file that word 3 names.
-pub(crate) fn find() -> u8
+pub(crate) fn find<R: Outside>(rt: &R) -> u8
     ensures { result < 4 }
 {
-    let source = inputs::open_at(3);
-    if source < 0 {
+    let Some(mut source) = inputs::open_at(rt, 3) else {
         return words::FAILED;
-    }
-    let mut file = io::large_buffer();
-    let size = io::read_full(source, &mut file);
+    };
+    let mut file = [0u8; 65536];
+    let size = files::read_full(&mut source, &mut file);
     let mut number = [0u8; 16];
-    let length = os::arg(4, &mut number);
-    find_number(&file[..size], &number[..length])
+    let length = files::arg(rt, 4, &mut number);
+    find_number(rt, &file[..size], &number[..length])
 }
 
-fn get_image(file: &[u8], position: usize) -> u8
+fn get_image<R: Outside>(rt: &R, file: &[u8], position: usize) -> u8
     ensures { result < 4 }
 {
     let image = day_read::image_at(file, position);
-    if inputs::write_file(5, image, 256) {
+    if inputs::write_file(rt, 5, image, 256) {
         words::DONE
     } else {
         words::FAILED
     }
 }
 
-fn get_position(file: &[u8], position: usize) -> u8
+fn get_position<R: Outside>(rt: &R, file: &[u8], position: usize) -> u8
     ensures { result < 4 }
 {
     let answer = day_read::image_start(file, position);
     let refusal = answer.refusal;
     if refusal.number != 0 {
-        return refusals::tell(refusal, file);
+        return refusals::tell(rt, refusal, file);
     }
-    get_image(file, position)
+    get_image(rt, file, position)
 }
 
 // Takes the card at the position that word 4 is out of the file that word 3 names.
-pub(crate) fn get() -> u8
+pub(crate) fn get<R: Outside>(rt: &R) -> u8
     ensures { result < 4 }
 {
-    let position = inputs::number_at(4);
+    let position = inputs::number_at(rt, 4);
     if position > 9999 {
-        return words::misused(b"day get takes a position of at most four digits");
+        return words::misused(rt, b"day get takes a position of at most four digits");
     }
-    let source = inputs::open_at(3);
-    if source < 0 {
+    let Some(mut source) = inputs::open_at(rt, 3) else {
         return words::FAILED;
-    }
-    let mut file = io::large_buffer();
-    let size = io::read_full(source, &mut file);
-    get_position(&file[..size], position)
+    };
+    let mut file = [0u8; 65536];
+    let size = files::read_full(&mut source, &mut file);
+    get_position(rt, &file[..size], position)
 }

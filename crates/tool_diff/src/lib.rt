@@ -7,7 +7,8 @@ ghost use Rattle.std.specs.Prelude.{◌<◌};
 
 use card::{Object, Record};
 use edition::Edition;
-use libc::STDOUT_FILENO;
+use files::{Outside, Source};
+use std::io::Read;
 
 const EQUAL: u8 = 0;
 
@@ -15,52 +16,52 @@ const DIFFERENT: u8 = 1;
 
 const TROUBLE: u8 = 2;
 
-fn put(text: &[u8]) {
-    io::write_all(STDOUT_FILENO, text);
+fn put<R: Outside>(rt: &R, text: &[u8]) {
+    files::write_all(rt, text);
 }
 
-fn put_number(n: u64) {
-    io::print_decimal(STDOUT_FILENO, n);
+fn put_number<R: Outside>(rt: &R, n: u64) {
+    files::print_decimal(rt, n);
 }
 
-fn put_hex(byte: u8) {
+fn put_hex<R: Outside>(rt: &R, byte: u8) {
     let mut digits = [0u8; 2];
     ground_digits::put_hex(&mut digits, 0, byte);
-    put(&digits);
+    put(rt, &digits);
 }
 
-fn put_index(index: u32) {
-    put(b": first difference at index ");
-    put_number(index as u64);
-    put(b": ");
+fn put_index<R: Outside>(rt: &R, index: u32) {
+    put(rt, b": first difference at index ");
+    put_number(rt, index as u64);
+    put(rt, b": ");
 }
 
 // What differs, by the kind of the entry and its place.
-fn put_kind(kind: u32, place: u32) {
+fn put_kind<R: Outside>(rt: &R, kind: u32, place: u32) {
     match kind {
-        1 => put(b": absent in the first card: "),
-        2 => put(b": absent in the second card: "),
-        3 => put(b": lengths differ: "),
-        _ => put_index(place),
+        1 => put(rt, b": absent in the first card: "),
+        2 => put(rt, b": absent in the second card: "),
+        3 => put(rt, b": lengths differ: "),
+        _ => put_index(rt, place),
     }
 }
 
 // The first bytes of a value in quotation marks, which no value has.
-fn put_quoted(bytes: &[u8], length: usize) {
+fn put_quoted<R: Outside>(rt: &R, bytes: &[u8], length: usize) {
     if length > bytes.len() {
         return;
     }
-    put(b"\"");
-    put(&bytes[..length]);
-    put(b"\"");
+    put(rt, b"\"");
+    put(rt, &bytes[..length]);
+    put(rt, b"\"");
 }
 
-fn put_value(item: Object) {
+fn put_value<R: Outside>(rt: &R, item: Object) {
     let bytes = item.bytes;
     if item.length == 0 {
-        put(b"none");
+        put(rt, b"none");
     } else {
-        put_quoted(&bytes, item.length as usize);
+        put_quoted(rt, &bytes, item.length as usize);
     }
 }
 
@@ -79,43 +80,51 @@ fn row_of(tag: u8) -> usize
 }
 
 // The line of an object that differs. Answers whether its end was written.
-fn write_object(entry: u32, first: Record, second: Record) -> bool {
+fn write_object<R: Outside>(rt: &R, entry: u32, first: Record, second: Record) -> bool {
     let tag = (entry / 256 % 256) as u8;
     let row = row_of(tag);
     let a = first.objects[row];
     let b = second.objects[row];
-    put_hex(tag);
-    put(b" ");
-    words::put_name(STDOUT_FILENO, tag);
-    put_kind(entry / 65536, entry % 256);
-    put_value(a);
-    put(b", ");
-    put_value(b);
-    io::write_all(STDOUT_FILENO, b"\n")
+    put_hex(rt, tag);
+    put(rt, b" ");
+    words::put_name(rt, tag);
+    put_kind(rt, entry / 65536, entry % 256);
+    put_value(rt, a);
+    put(rt, b", ");
+    put_value(rt, b);
+    files::write_all(rt, b"\n")
 }
 
 // The line of a byte that differs, by its address. Answers whether its end was written.
-fn write_byte(entry: u32, first: &[u8], second: &[u8]) -> bool {
+fn write_byte<R: Outside>(rt: &R, entry: u32, first: &[u8], second: &[u8]) -> bool {
     let address = (entry % 256) as usize;
-    put(b"address ");
-    put_number(address as u64);
-    put(b": ");
-    put_hex(ground_parts::byte_at(first, address));
-    put(b", ");
-    put_hex(ground_parts::byte_at(second, address));
-    io::write_all(STDOUT_FILENO, b"\n")
+    put(rt, b"address ");
+    put_number(rt, address as u64);
+    put(rt, b": ");
+    put_hex(rt, ground_parts::byte_at(first, address));
+    put(rt, b", ");
+    put_hex(rt, ground_parts::byte_at(second, address));
+    files::write_all(rt, b"\n")
 }
 
-fn write_entry(entry: u32, first: &[u8], one: Record, second: &[u8], two: Record) -> bool {
+fn write_entry<R: Outside>(
+    rt: &R,
+    entry: u32,
+    first: &[u8],
+    one: Record,
+    second: &[u8],
+    two: Record,
+) -> bool {
     if entry / 65536 == 5 {
-        write_byte(entry, first, second)
+        write_byte(rt, entry, first, second)
     } else {
-        write_object(entry, one, two)
+        write_object(rt, entry, one, two)
     }
 }
 
 // Writes a line for each entry; the first 0 ends them.
-fn write_entries(
+fn write_entries<R: Outside>(
+    rt: &R,
     entries: [u32; 30],
     first: &[u8],
     one: Record,
@@ -127,7 +136,7 @@ fn write_entries(
         if entries[i] == 0 {
             return true;
         }
-        if !write_entry(entries[i], first, one, second, two) {
+        if !write_entry(rt, entries[i], first, one, second, two) {
             return false;
         }
         i += 1;
@@ -136,37 +145,37 @@ fn write_entries(
 }
 
 // Writes what a listing writes of a refused card, and says which card it is and what is wrong.
-fn refuse_card(which: &[u8], edition: Edition, image: &[u8]) -> u8
+fn refuse_card<R: Outside>(rt: &R, which: &[u8], edition: Edition, image: &[u8]) -> u8
     ensures { result < 4 }
 {
     let mut room = [0u8; 521];
     let size = listing::list(edition, image, &mut room);
-    if !io::write_all(STDOUT_FILENO, &room[..size]) {
-        return words::written(false);
+    if !files::write_all(rt, &room[..size]) {
+        return words::written(rt, false);
     }
-    words::say(which);
-    words::say_refused(edition, image);
+    words::say(rt, which);
+    words::say_refused(rt, edition, image);
     TROUBLE
 }
 
-fn refuse(edition: Edition, first: &[u8], second: &[u8]) -> u8
+fn refuse<R: Outside>(rt: &R, edition: Edition, first: &[u8], second: &[u8]) -> u8
     ensures { result < 4 }
 {
     let refusal = reader_places::places(edition, first).refusal;
     if refusal.number != 0 {
-        refuse_card(b"the first card is refused", edition, first)
+        refuse_card(rt, b"the first card is refused", edition, first)
     } else {
-        refuse_card(b"the second card is refused", edition, second)
+        refuse_card(rt, b"the second card is refused", edition, second)
     }
 }
 
-fn compare(edition: Edition, first: &[u8], second: &[u8]) -> u8
+fn compare<R: Outside>(rt: &R, edition: Edition, first: &[u8], second: &[u8]) -> u8
     ensures { result < 4 }
 {
     let found = differences::compare(edition, first, second);
     let refusal = found.refusal;
     if refusal.number != 0 {
-        return refuse(edition, first, second);
+        return refuse(rt, edition, first, second);
     }
     if found.count == 0 {
         return EQUAL;
@@ -174,54 +183,57 @@ fn compare(edition: Edition, first: &[u8], second: &[u8]) -> u8
     let entries = found.entries;
     let one = reader::read(edition, first).content;
     let two = reader::read(edition, second).content;
-    if write_entries(entries, first, one, second, two) {
+    if write_entries(rt, entries, first, one, second, two) {
         return DIFFERENT;
     }
-    words::written(false)
+    words::written(rt, false)
 }
 
 // Compares the cards in two open files.
-fn compare_open(edition: Edition, one: i32, two: i32) -> u8
+fn compare_open<R: Outside>(
+    rt: &R,
+    edition: Edition,
+    one: &mut impl Read,
+    two: &mut impl Read,
+) -> u8
     ensures { result < 4 }
 {
     // One byte more than a card has: a card with something behind it is none.
     let mut first = [0u8; 257];
-    let m = io::read_full(one, &mut first);
+    let m = files::read_full(one, &mut first);
     let mut second = [0u8; 257];
-    let n = io::read_full(two, &mut second);
-    compare(edition, &first[..m], &second[..n])
+    let n = files::read_full(two, &mut second);
+    compare(rt, edition, &first[..m], &second[..n])
 }
 
 // Opens the file that word i names.
-fn open_at(i: usize) -> i32 {
-    let mut path = io::buffer();
-    let length = os::arg(i, &mut path);
-    files::open(&path[..length])
+fn open_at<R: Outside>(rt: &R, i: usize) -> Option<Source<R::Reader, R::File>> {
+    let mut path = [0u8; 4096];
+    let length = files::arg(rt, i, &mut path);
+    files::open(rt, &path[..length])
 }
 
-fn compare_files(edition: Edition) -> u8
+fn compare_files<R: Outside>(rt: &R, edition: Edition) -> u8
     ensures { result < 4 }
 {
-    let one = open_at(3);
-    if one < 0 {
+    let Some(mut one) = open_at(rt, 3) else {
         return words::FAILED;
-    }
-    let two = open_at(4);
-    if two < 0 {
+    };
+    let Some(mut two) = open_at(rt, 4) else {
         return words::FAILED;
-    }
-    compare_open(edition, one, two)
+    };
+    compare_open(rt, edition, &mut one, &mut two)
 }
 
-pub fn run() -> u8
+pub fn run<R: Outside>(rt: &R) -> u8
     ensures { result < 4 }
 {
-    if os::arg_count() != 5 {
-        return words::misused(b"diff takes an edition and two files");
+    if files::arg_count(rt) != 5 {
+        return words::misused(rt, b"diff takes an edition and two files");
     }
-    let chosen = tables::edition_at(2);
+    let chosen = tables::edition_at(rt, 2);
     if chosen.status != words::DONE {
         return chosen.status;
     }
-    compare_files(chosen.edition)
+    compare_files(rt, chosen.edition)
 }

@@ -1,5 +1,5 @@
 // A byte of a line as the letter that it prints.
-use libc::STDOUT_FILENO;
+use files::Outside;
 
 // The second byte in UTF-8 of a letter of DIN 66003, whose first is 'C3'; 0 for another byte.
 fn letter_of(b: u8) -> u8 {
@@ -16,11 +16,11 @@ fn letter_of(b: u8) -> u8 {
 }
 
 // Writes a byte of a line as the letter that it prints.
-pub(crate) fn show(b: u8) {
+pub(crate) fn show<R: Outside>(rt: &R, b: u8) {
     let letter = letter_of(b);
     if letter == 0 {
-        io::write_all(STDOUT_FILENO, &[b]);
+        files::write_all(rt, &[b]);
     } else {
-        io::write_all(STDOUT_FILENO, &[0xC3, letter]);
+        files::write_all(rt, &[0xC3, letter]);
     }
 }

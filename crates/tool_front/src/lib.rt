@@ -11,71 +11,75 @@ ghost use Rattle.std.specs.Prelude.{◌<◌};
 
 use card::Record;
 use edition::Edition;
+use files::Outside;
+use std::io::Read;
 
 // Says why a card that was read has no front.
-fn refused(number: u8) -> u8
+fn refused<R: Outside>(rt: &R, number: u8) -> u8
     ensures { result < 4 }
 {
     if number == 30 {
-        words::say(b"the status addition is missing, or none of the eighteen signs");
-        return words::refused(b"REFUSED 30 0 00 0 0\n");
+        words::say(
+            rt,
+            b"the status addition is missing, or none of the eighteen signs",
+        );
+        return words::refused(rt, b"REFUSED 30 0 00 0 0\n");
     }
     if number == 31 {
-        words::say(b"the validity is missing");
-        return words::refused(b"REFUSED 31 0 00 0 0\n");
+        words::say(rt, b"the validity is missing");
+        return words::refused(rt, b"REFUSED 31 0 00 0 0\n");
     }
-    words::say(b"a printed field has an underscore");
-    words::refused(b"REFUSED 32 0 00 0 0\n")
+    words::say(rt, b"a printed field has an underscore");
+    words::refused(rt, b"REFUSED 32 0 00 0 0\n")
 }
 
 // Prints the front of a record that was read under terminal.
-fn print_front(content: Record, fund: bool, svg: bool) -> u8
+fn print_front<R: Outside>(rt: &R, content: Record, fund: bool, svg: bool) -> u8
     ensures { result < 4 }
 {
     let mut lines = [b' '; 112];
     let refusal = front_print::print(content, fund, &mut lines);
     if refusal.number != 0 {
-        return refused(refusal.number);
+        return refused(rt, refusal.number);
     }
     if svg {
-        return words::written(picture::draw_lines(&lines));
+        return words::written(rt, picture::draw_lines(rt, &lines));
     }
-    words::written(framed::show_lines(&lines))
+    words::written(rt, framed::show_lines(rt, &lines))
 }
 
 // Prints the front of the card in an open file, or lists why it is none.
-fn print_card(file: i32, fund: bool, svg: bool) -> u8
+fn print_card<R: Outside>(rt: &R, file: &mut impl Read, fund: bool, svg: bool) -> u8
     ensures { result < 4 }
 {
     // One byte more than a card has: a card with something behind it is none.
     let mut image = [0u8; 257];
-    let length = io::read_full(file, &mut image);
+    let length = files::read_full(file, &mut image);
     let reading = reader::read(Edition::TERMINAL, &image[..length]);
     if reading.refusal.number == 0 {
-        return print_front(reading.content, fund, svg);
+        return print_front(rt, reading.content, fund, svg);
     }
-    words::list_image(Edition::TERMINAL, &image[..length])
+    words::list_image(rt, Edition::TERMINAL, &image[..length])
 }
 
 // Prints the front of the card in the file that word i names.
-fn print_file(i: usize, fund: bool, svg: bool) -> u8
+fn print_file<R: Outside>(rt: &R, i: usize, fund: bool, svg: bool) -> u8
     ensures { result < 4 }
 {
-    let mut path = io::buffer();
-    let length = os::arg(i, &mut path);
-    let file = files::open(&path[..length]);
-    if file < 0 {
+    let mut path = [0u8; 4096];
+    let length = files::arg(rt, i, &mut path);
+    let Some(mut file) = files::open(rt, &path[..length]) else {
         return words::FAILED;
-    }
-    print_card(file, fund, svg)
+    };
+    print_card(rt, &mut file, fund, svg)
 }
 
 // The option that word i is: 1 --fund, 2 --svg, 0 another word.
-fn option_at(i: usize) -> u64
+fn option_at<R: Outside>(rt: &R, i: usize) -> u64
     ensures { result < 3 }
 {
     let mut word = [0u8; 16];
-    let length = os::arg(i, &mut word);
+    let length = files::arg(rt, i, &mut word);
     if ground_parts::is_same(&word[..length], b"--fund") {
         return 1;
     }
@@ -85,19 +89,22 @@ fn option_at(i: usize) -> u64
     0
 }
 
-pub fn run() -> u8
+pub fn run<R: Outside>(rt: &R) -> u8
     ensures { result < 4 }
 {
-    let words = os::arg_count();
+    let words = files::arg_count(rt);
     if words == 3 {
-        return print_file(2, false, false);
+        return print_file(rt, 2, false, false);
     }
-    let first = option_at(2);
+    let first = option_at(rt, 2);
     if (words == 4) & (first != 0) {
-        return print_file(3, first == 1, first == 2);
+        return print_file(rt, 3, first == 1, first == 2);
     }
-    if (words == 5) & (first + option_at(3) == 3) {
-        return print_file(4, true, true);
+    if (words == 5) & (first + option_at(rt, 3) == 3) {
+        return print_file(rt, 4, true, true);
     }
-    words::misused(b"front takes one file, and before it --fund, --svg or both")
+    words::misused(
+        rt,
+        b"front takes one file, and before it --fund, --svg or both",
+    )
 }

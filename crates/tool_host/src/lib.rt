@@ -3,15 +3,16 @@
 // A command that is declined is answered all the same, with its two bytes; what they mean is said on standard error.
 #![tactic(auto)]
 
-ghost use Rattle.std.specs.Prelude.{◌<◌};
-ghost use Rattle.io.specs.Counts.{IsPrefixLen};
+ghost use Rattle.std.specs.Prelude.{◌≡◌, ◌<◌, ◌≤◌, length, take};
 
 use edition::Edition;
-use libc::STDOUT_FILENO;
+use files::Outside;
+use std::io::Read;
 
 // Puts so many bytes in hex at the start of a room, and the end of the line. Answers how many bytes that takes.
 fn put_line(room: &mut [u8], bytes: &[u8], count: usize) -> usize
-    ensures { IsPrefixLen result room.new }
+    ensures bound { result ≤ length room.new }
+    ensures taken { result ≡ length (take result room.new) }
 {
     let mut place = 0;
     let mut i = 0;
@@ -23,83 +24,84 @@ fn put_line(room: &mut [u8], bytes: &[u8], count: usize) -> usize
 }
 
 // Says why a command is declined, by the first byte of the answer.
-fn say_why(status: u8) {
+fn say_why<R: Outside>(rt: &R, status: u8) {
     match status {
-        0x67 => words::say(b"a command has five bytes, the last of them a count from 1 on"),
-        0x6D => words::say(b"a command begins with 00B0"),
-        0x69 => words::say(b"the card is refused; 'kvk list' says why"),
-        _ => words::say(b"the range goes past the template"),
+        0x67 => words::say(
+            rt,
+            b"a command has five bytes, the last of them a count from 1 on",
+        ),
+        0x6D => words::say(rt, b"a command begins with 00B0"),
+        0x69 => words::say(rt, b"the card is refused; 'kvk list' says why"),
+        _ => words::say(rt, b"the range goes past the template"),
     }
 }
 
 // Answers a command over the card in an open file.
-fn answer(edition: Edition, file: i32, command: &[u8]) -> u8
+fn answer<R: Outside>(rt: &R, edition: Edition, file: &mut impl Read, command: &[u8]) -> u8
     ensures { result < 4 }
 {
     // One byte more than a card has: a card with something behind it is none.
     let mut image = [0u8; 257];
-    let length = io::read_full(file, &mut image);
+    let length = files::read_full(file, &mut image);
     let mut room = [0u8; 257];
     let hosted = host::host(edition, &image[..length], command, &mut room);
     let mut text = [0u8; 515];
     let size = put_line(&mut text, &room, hosted.length);
-    let is_written = io::write_all(STDOUT_FILENO, &text[..size]);
+    let is_written = files::write_all(rt, &text[..size]);
     // The shortest answer with bytes of the card has three.
     if is_written & (hosted.length == 2) {
-        say_why(room[0]);
+        say_why(rt, room[0]);
         return words::REFUSED;
     }
-    words::written(is_written)
+    words::written(rt, is_written)
 }
 
 // Answers a command over the card in the file that word 3 names.
-fn answer_file(edition: Edition, command: &[u8]) -> u8
+fn answer_file<R: Outside>(rt: &R, edition: Edition, command: &[u8]) -> u8
     ensures { result < 4 }
 {
-    let mut path = io::buffer();
-    let length = os::arg(3, &mut path);
-    let file = files::open(&path[..length]);
-    if file < 0 {
+    let mut path = [0u8; 4096];
+    let length = files::arg(rt, 3, &mut path);
+    let Some(mut file) = files::open(rt, &path[..length]) else {
         return words::FAILED;
-    }
-    answer(edition, file, command)
+    };
+    answer(rt, edition, &mut file, command)
 }
 
 // A command of so many bytes, at the start of a room.
-fn run_command(edition: Edition, room: &[u8], count: usize) -> u8
+fn run_command<R: Outside>(rt: &R, edition: Edition, room: &[u8], count: usize) -> u8
     ensures { result < 4 }
 {
     if room.len() < count {
-        return words::misused(b"host takes a command of at most 4096 hex digits");
+        return words::misused(rt, b"host takes a command of at most 4096 hex digits");
     }
-    answer_file(edition, &room[..count])
+    answer_file(rt, edition, &room[..count])
 }
 
 // The command that word 4 names.
-fn run_word(edition: Edition) -> u8
+fn run_word<R: Outside>(rt: &R, edition: Edition) -> u8
     ensures { result < 4 }
 {
-    let mut word = io::buffer();
-    let length = os::arg(4, &mut word);
-    if os::errno() != 0 {
-        return words::misused(b"host takes a command of at most 4096 hex digits");
-    }
+    let mut word = [0u8; 4096];
+    let Ok(length) = rt.arg(4, &mut word) else {
+        return words::misused(rt, b"host takes a command of at most 4096 hex digits");
+    };
     let mut bytes = [0u8; 2048];
     if !words::put_hex_word(&mut bytes, &word[..length]) {
-        return words::misused(b"a command is written in hex digits, two for a byte");
+        return words::misused(rt, b"a command is written in hex digits, two for a byte");
     }
-    run_command(edition, &bytes, length / 2)
+    run_command(rt, edition, &bytes, length / 2)
 }
 
-pub fn run() -> u8
+pub fn run<R: Outside>(rt: &R) -> u8
     ensures { result < 4 }
 {
-    if os::arg_count() != 5 {
-        return words::misused(b"host takes an edition, a file and a command");
+    if files::arg_count(rt) != 5 {
+        return words::misused(rt, b"host takes an edition, a file and a command");
     }
-    let chosen = tables::edition_at(2);
+    let chosen = tables::edition_at(rt, 2);
     if chosen.status != words::DONE {
         return chosen.status;
     }
-    run_word(chosen.edition)
+    run_word(rt, chosen.edition)
 }

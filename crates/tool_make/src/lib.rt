@@ -8,14 +8,14 @@ mod wrong;
 ghost use Rattle.std.specs.Prelude.{◌<◌};
 
 use edition::Edition;
-use libc::STDOUT_FILENO;
+use files::Outside;
 
 // Writes the first bytes of a room.
-fn write_first(room: &[u8], size: usize) -> bool {
+fn write_first<R: Outside>(rt: &R, room: &[u8], size: usize) -> bool {
     if size > room.len() {
         return false;
     }
-    io::write_all(STDOUT_FILENO, &room[..size])
+    files::write_all(rt, &room[..size])
 }
 
 // Puts a blank and a number.
@@ -40,24 +40,32 @@ fn put_ends(room: &mut [u8], at: usize, shortest: u8, longest: u8) -> usize {
 }
 
 // Writes the line of a refusal.
-fn print_refusal(number: u8, place: usize, tag: u8, shortest: u8, longest: u8) -> bool {
+fn print_refusal<R: Outside>(
+    rt: &R,
+    number: u8,
+    place: usize,
+    tag: u8,
+    shortest: u8,
+    longest: u8,
+) -> bool {
     let mut room = [0u8; 32];
     let behind_word = ground_room::put(&mut room, 0, b"REFUSED");
     let behind_cause = put_cause(&mut room, behind_word, number, place, tag);
     let end = put_ends(&mut room, behind_cause, shortest, longest);
-    write_first(&room, end)
+    write_first(rt, &room, end)
 }
 
 // Makes the card of a text that has no fault.
-fn make_card(edition: Edition, text: &[u8]) -> u8
+fn make_card<R: Outside>(rt: &R, edition: Edition, text: &[u8]) -> u8
     ensures { result < 4 }
 {
     let mut image = [0u8; 256];
     let content = text_records::record_of(text, edition.number);
     let refusal = writer::write(edition, content, &mut image);
     if refusal.number != 0 {
-        wrong::say_refusal(text, content, refusal);
+        wrong::say_refusal(rt, text, content, refusal);
         if print_refusal(
+            rt,
             refusal.number,
             refusal.place,
             refusal.tag,
@@ -66,11 +74,11 @@ fn make_card(edition: Edition, text: &[u8]) -> u8
         ) {
             return words::REFUSED;
         }
-        return words::written(false);
+        return words::written(rt, false);
     }
-    let mut path = io::buffer();
-    let length = os::arg(4, &mut path);
-    if files::write(&path[..length], &image) {
+    let mut path = [0u8; 4096];
+    let length = files::arg(rt, 4, &mut path);
+    if files::write(rt, &path[..length], &image) {
         words::DONE
     } else {
         words::FAILED
@@ -78,38 +86,40 @@ fn make_card(edition: Edition, text: &[u8]) -> u8
 }
 
 // Makes the card of a text.
-fn make(edition: Edition, text: &[u8]) -> u8
+fn make<R: Outside>(rt: &R, edition: Edition, text: &[u8]) -> u8
     ensures { result < 4 }
 {
     let fault = text_checks::check(text);
     if fault.number != 0 {
-        wrong::say_fault(text, fault);
+        wrong::say_fault(rt, text, fault);
         return words::REFUSED;
     }
-    make_card(edition, text)
+    make_card(rt, edition, text)
 }
 
-pub fn run() -> u8
+pub fn run<R: Outside>(rt: &R) -> u8
     ensures { result < 4 }
 {
-    if os::arg_count() != 5 {
-        return words::misused(b"make takes an edition, a text, and the file to be written");
+    if files::arg_count(rt) != 5 {
+        return words::misused(
+            rt,
+            b"make takes an edition, a text, and the file to be written",
+        );
     }
-    let chosen = tables::edition_at(2);
+    let chosen = tables::edition_at(rt, 2);
     if chosen.status != words::DONE {
         return chosen.status;
     }
-    let mut path = io::buffer();
-    let named = os::arg(3, &mut path);
-    let file = files::open(&path[..named]);
-    if file < 0 {
+    let mut path = [0u8; 4096];
+    let named = files::arg(rt, 3, &mut path);
+    let Some(mut file) = files::open(rt, &path[..named]) else {
         return words::FAILED;
-    }
-    let mut text = io::large_buffer();
-    let length = io::read_full(file, &mut text);
+    };
+    let mut text = [0u8; 65536];
+    let length = files::read_full(&mut file, &mut text);
     if length == text.len() {
-        words::say(b"the text is longer than any card's");
+        words::say(rt, b"the text is longer than any card's");
         return words::REFUSED;
     }
-    make(chosen.edition, &text[..length])
+    make(rt, chosen.edition, &text[..length])
 }

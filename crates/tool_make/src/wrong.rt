@@ -1,53 +1,53 @@
 // What is wrong with a text, or with the record that it makes, in words: one line on standard error, with the line of the text.
 use card::{Object, Record, Refusal};
 use card_text::Fault;
-use libc::STDERR_FILENO;
+use files::Outside;
 
 const FIRST: usize = 16;
 
 const LAST: usize = 18;
 
-fn put(text: &[u8]) {
-    io::write_all(STDERR_FILENO, text);
+fn put<R: Outside>(rt: &R, text: &[u8]) {
+    files::write_all(&rt.stderr(), text);
 }
 
 // The first bytes of a room.
-fn put_first(room: &[u8], size: usize) {
+fn put_first<R: Outside>(rt: &R, room: &[u8], size: usize) {
     if size <= room.len() {
-        put(&room[..size]);
+        put(rt, &room[..size]);
     }
 }
 
-fn put_number(n: usize) {
-    io::print_decimal(STDERR_FILENO, n as u64);
+fn put_number<R: Outside>(rt: &R, n: usize) {
+    files::print_decimal(&rt.stderr(), n as u64);
 }
 
 // A byte as the documents write it.
-fn put_byte(byte: u8) {
+fn put_byte<R: Outside>(rt: &R, byte: u8) {
     let mut digits = [0u8; 2];
     ground_digits::put_hex(&mut digits, 0, byte);
-    put(b"'");
-    put(&digits);
-    put(b"'");
+    put(rt, b"'");
+    put(rt, &digits);
+    put(rt, b"'");
 }
 
 // The text's name, and the line, where there is one.
-fn put_line(line: usize) {
-    let mut path = io::buffer();
-    let length = os::arg(3, &mut path);
-    put(b"kvk: ");
-    put(&path[..length]);
+fn put_line<R: Outside>(rt: &R, line: usize) {
+    let mut path = [0u8; 4096];
+    let length = files::arg(rt, 3, &mut path);
+    put(rt, b"kvk: ");
+    put(rt, &path[..length]);
     if line != 0 {
-        put(b", line ");
-        put_number(line);
+        put(rt, b", line ");
+        put_number(rt, line);
     }
-    put(b": ");
+    put(rt, b": ");
 }
 
-fn put_name(key: usize) {
+fn put_name<R: Outside>(rt: &R, key: usize) {
     let mut room = [0u8; 20];
     let end = line_names::put_name(&mut room, 0, key);
-    put_first(&room, end);
+    put_first(rt, &room, end);
 }
 
 // Of a text in UTF-8, how many bytes the letter has that begins with this one.
@@ -62,36 +62,39 @@ fn letter_size(first: u8) -> usize {
 }
 
 // The letter at a place of a value.
-fn put_letter(value: &[u8], place: usize) {
+fn put_letter<R: Outside>(rt: &R, value: &[u8], place: usize) {
     let size = letter_size(ground_parts::byte_at(value, place));
     if place >= value.len() {
         return;
     }
-    put(b"'");
+    put(rt, b"'");
     if size > value.len() - place {
-        put(&value[place..]);
+        put(rt, &value[place..]);
     } else {
         let end = place + size;
-        put(&value[place..end]);
+        put(rt, &value[place..end]);
     }
-    put(b"' ");
+    put(rt, b"' ");
 }
 
 // Says what is wrong with a line.
-pub(crate) fn say_fault(text: &[u8], fault: Fault) {
+pub(crate) fn say_fault<R: Outside>(rt: &R, text: &[u8], fault: Fault) {
     let number = fault.number;
-    put_line(fault.line);
+    put_line(rt, fault.line);
     match number {
-        1 => put(b"no object has this name"),
-        2 => put(b"an earlier line has this already"),
-        3 => put_letter(text_entries::value(text, fault.key), fault.place),
-        4 => put_name(fault.key),
-        _ => put(b"the checksum is computed, and no line sets it"),
+        1 => put(rt, b"no object has this name"),
+        2 => put(rt, b"an earlier line has this already"),
+        3 => put_letter(rt, text_entries::value(text, fault.key), fault.place),
+        4 => put_name(rt, fault.key),
+        _ => put(rt, b"the checksum is computed, and no line sets it"),
     }
     match number {
-        3 => put(b"is no letter of DIN 66003\n"),
-        4 => put(b" is due in hex digits, two for a byte: 24 for the free bytes, and else 2\n"),
-        _ => put(b"\n"),
+        3 => put(rt, b"is no letter of DIN 66003\n"),
+        4 => put(
+            rt,
+            b" is due in hex digits, two for a byte: 24 for the free bytes, and else 2\n",
+        ),
+        _ => put(rt, b"\n"),
     }
 }
 
@@ -115,78 +118,82 @@ fn object_at(content: Record, row: usize) -> Object {
     }
 }
 
-fn put_object(tag: u8) {
-    put(b"object ");
-    put_byte(tag);
-    put(b", ");
-    words::put_name(STDERR_FILENO, tag);
+fn put_object<R: Outside>(rt: &R, tag: u8) {
+    put(rt, b"object ");
+    put_byte(rt, tag);
+    put(rt, b", ");
+    words::put_name(&rt.stderr(), tag);
 }
 
 // 3
-fn say_end(text: &[u8], first: u8, last: u8) {
+fn say_end<R: Outside>(rt: &R, text: &[u8], first: u8, last: u8) {
     if card_ends::allows_first(first) {
-        put_line(text_entries::line_of(text, LAST));
-        put(b"the last byte is ");
-        put_byte(last);
-        put(b", '00' is due, or 'FF' where address 0 is '82'\n");
+        put_line(rt, text_entries::line_of(text, LAST));
+        put(rt, b"the last byte is ");
+        put_byte(rt, last);
+        put(rt, b", '00' is due, or 'FF' where address 0 is '82'\n");
     } else {
-        put_line(text_entries::line_of(text, FIRST));
-        put(b"address 0 is ");
-        put_byte(first);
-        put(b", '82', '92' or 'A2' is due\n");
+        put_line(rt, text_entries::line_of(text, FIRST));
+        put(rt, b"address 0 is ");
+        put_byte(rt, first);
+        put(rt, b", '82', '92' or 'A2' is due\n");
     }
 }
 
 // 7
-fn say_length(item: Object, refusal: Refusal) {
-    put(b", has length ");
-    put_number(item.length as usize);
-    put(b", ");
-    put_number(refusal.shortest as usize);
+fn say_length<R: Outside>(rt: &R, item: Object, refusal: Refusal) {
+    put(rt, b", has length ");
+    put_number(rt, item.length as usize);
+    put(rt, b", ");
+    put_number(rt, refusal.shortest as usize);
     if refusal.shortest != refusal.longest {
-        put(b" to ");
-        put_number(refusal.longest as usize);
+        put(rt, b" to ");
+        put_number(rt, refusal.longest as usize);
     }
-    put(b" is due\n");
+    put(rt, b" is due\n");
 }
 
 // 9
-fn say_letter(item: Object, place: usize) {
+fn say_letter<R: Outside>(rt: &R, item: Object, place: usize) {
     let bytes = item.bytes;
     let byte = [ground_parts::byte_at(&bytes, place)];
     let mut room = [0u8; 2];
     let turned = letters_spelled::to_utf8(&byte, &mut room);
-    put(b", may not have '");
-    put_first(&room, turned.made);
-    put(b"'\n");
+    put(rt, b", may not have '");
+    put_first(rt, &room, turned.made);
+    put(rt, b"'\n");
 }
 
 // 6, 7, 9, 10 and 11
-fn say_object(text: &[u8], content: Record, refusal: Refusal) {
+fn say_object<R: Outside>(rt: &R, text: &[u8], content: Record, refusal: Refusal) {
     let number = refusal.number;
     let row = row_of(refusal.tag);
-    put_line(text_entries::line_of(text, row));
-    put_object(refusal.tag);
+    put_line(rt, text_entries::line_of(text, row));
+    put_object(rt, refusal.tag);
     match number {
-        6 => put(b", is missing\n"),
-        7 => say_length(object_at(content, row), refusal),
-        9 => say_letter(object_at(content, row), refusal.place),
-        10 => put(b", has a value that makes no sense\n"),
-        _ => put(b", and the objects of its group are too long together\n"),
+        6 => put(rt, b", is missing\n"),
+        7 => say_length(rt, object_at(content, row), refusal),
+        9 => say_letter(rt, object_at(content, row), refusal.place),
+        10 => put(rt, b", has a value that makes no sense\n"),
+        _ => put(
+            rt,
+            b", and the objects of its group are too long together\n",
+        ),
     }
 }
 
 // Says why a record is not written.
-pub(crate) fn say_refusal(text: &[u8], content: Record, refusal: Refusal) {
+pub(crate) fn say_refusal<R: Outside>(rt: &R, text: &[u8], content: Record, refusal: Refusal) {
     let number = refusal.number;
     match number {
-        3 => say_end(text, content.first, content.last),
+        3 => say_end(rt, text, content.first, content.last),
         4 => {
-            put_line(0);
+            put_line(rt, 0);
             put(
+                rt,
                 b"the objects are too short or too long together: a template has a length of 70 to 212\n",
             );
         }
-        _ => say_object(text, content, refusal),
+        _ => say_object(rt, text, content, refusal),
     }
 }

@@ -9,28 +9,29 @@ ghost use Rattle.std.specs.Prelude.{◌<◌};
 
 use card::Refusal;
 use edition::Edition;
-use libc::STDOUT_FILENO;
+use files::{Outside, Source};
+use std::io::Read;
 
 // The room for offered steps: more than the check takes, so that 60 is its to tell.
 const OFFERED: usize = 300;
 
-fn write_step(word: u32) -> bool {
+fn write_step<R: Outside>(rt: &R, word: u32) -> bool {
     let mut digits = [0u8; 2];
     ground_digits::put_hex(&mut digits, 0, (word % 256) as u8);
-    io::print_decimal(STDOUT_FILENO, (word / 256) as u64);
-    io::write_all(STDOUT_FILENO, b" ");
-    io::write_all(STDOUT_FILENO, &digits);
-    io::write_all(STDOUT_FILENO, b"\n")
+    files::print_decimal(rt, (word / 256) as u64);
+    files::write_all(rt, b" ");
+    files::write_all(rt, &digits);
+    files::write_all(rt, b"\n")
 }
 
 // Writes the first `count` steps, a line for each.
-fn write_steps(steps: &[u32], count: usize) -> bool {
+fn write_steps<R: Outside>(rt: &R, steps: &[u32], count: usize) -> bool {
     let mut i = 0;
     while i < steps.len() {
         if i == count {
             return true;
         }
-        if !write_step(steps[i]) {
+        if !write_step(rt, steps[i]) {
             return false;
         }
         i += 1;
@@ -38,173 +39,178 @@ fn write_steps(steps: &[u32], count: usize) -> bool {
     true
 }
 
-fn write_refusal(refusal: Refusal) -> bool {
+fn write_refusal<R: Outside>(rt: &R, refusal: Refusal) -> bool {
     let mut tag = [0u8; 2];
     ground_digits::put_hex(&mut tag, 0, refusal.tag);
-    io::write_all(STDOUT_FILENO, b"REFUSED ");
-    io::print_decimal(STDOUT_FILENO, refusal.number as u64);
-    io::write_all(STDOUT_FILENO, b" ");
-    io::print_decimal(STDOUT_FILENO, refusal.place as u64);
-    io::write_all(STDOUT_FILENO, b" ");
-    io::write_all(STDOUT_FILENO, &tag);
-    io::write_all(STDOUT_FILENO, b" ");
-    io::print_decimal(STDOUT_FILENO, refusal.shortest as u64);
-    io::write_all(STDOUT_FILENO, b" ");
-    io::print_decimal(STDOUT_FILENO, refusal.longest as u64);
-    io::write_all(STDOUT_FILENO, b"\n")
+    files::write_all(rt, b"REFUSED ");
+    files::print_decimal(rt, refusal.number as u64);
+    files::write_all(rt, b" ");
+    files::print_decimal(rt, refusal.place as u64);
+    files::write_all(rt, b" ");
+    files::write_all(rt, &tag);
+    files::write_all(rt, b" ");
+    files::print_decimal(rt, refusal.shortest as u64);
+    files::write_all(rt, b" ");
+    files::print_decimal(rt, refusal.longest as u64);
+    files::write_all(rt, b"\n")
 }
 
 // Says what is refused.
-fn explain(number: u8, edition: Edition, new: &[u8]) {
+fn explain<R: Outside>(rt: &R, number: u8, edition: Edition, new: &[u8]) {
     match number {
-        20 => words::say(b"a card has not 256 bytes"),
-        60 => words::say(b"more than 257 steps are offered"),
-        _ => explain_card(edition, new),
+        20 => words::say(rt, b"a card has not 256 bytes"),
+        60 => words::say(rt, b"more than 257 steps are offered"),
+        _ => explain_card(rt, edition, new),
     }
 }
 
-fn explain_card(edition: Edition, new: &[u8]) {
-    words::say(b"the new card is refused");
-    words::say_refused(edition, new);
+fn explain_card<R: Outside>(rt: &R, edition: Edition, new: &[u8]) {
+    words::say(rt, b"the new card is refused");
+    words::say_refused(rt, edition, new);
 }
 
-fn refuse(refusal: Refusal, edition: Edition, new: &[u8]) -> u8
+fn refuse<R: Outside>(rt: &R, refusal: Refusal, edition: Edition, new: &[u8]) -> u8
     ensures { result < 4 }
 {
-    if !write_refusal(refusal) {
-        return words::written(false);
+    if !write_refusal(rt, refusal) {
+        return words::written(rt, false);
     }
-    explain(refusal.number, edition, new);
+    explain(rt, refusal.number, edition, new);
     words::REFUSED
 }
 
-fn plan(edition: Edition, old: &[u8], new: &[u8]) -> u8
+fn plan<R: Outside>(rt: &R, edition: Edition, old: &[u8], new: &[u8]) -> u8
     ensures { result < 4 }
 {
     let mut room = [0u32; 257];
     let made = planning::plan(edition, old, new, &mut room);
     let refusal = made.refusal;
     if refusal.number != 0 {
-        return refuse(refusal, edition, new);
+        return refuse(rt, refusal, edition, new);
     }
-    words::written(write_steps(&room, made.count))
+    words::written(rt, write_steps(rt, &room, made.count))
 }
 
-fn answer(is_safe: bool) -> u8
+fn answer<R: Outside>(rt: &R, is_safe: bool) -> u8
     ensures { result < 4 }
 {
     if is_safe {
-        return words::written(io::write_all(STDOUT_FILENO, b"yes\n"));
+        return words::written(rt, files::write_all(rt, b"yes\n"));
     }
-    if io::write_all(STDOUT_FILENO, b"no\n") {
+    if files::write_all(rt, b"no\n") {
         return words::REFUSED;
     }
-    words::written(false)
+    words::written(rt, false)
 }
 
-fn check(edition: Edition, old: &[u8], new: &[u8], steps: &[u32]) -> u8
+fn check<R: Outside>(rt: &R, edition: Edition, old: &[u8], new: &[u8], steps: &[u32]) -> u8
     ensures { result < 4 }
 {
     let checked = rewriting::check_plan(edition, old, new, steps);
     let refusal = checked.refusal;
     if refusal.number != 0 {
-        return refuse(refusal, edition, new);
+        return refuse(rt, refusal, edition, new);
     }
-    answer(checked.safe)
+    answer(rt, checked.safe)
 }
 
 // Checks the plan that a text has.
-fn check_text(edition: Edition, old: &[u8], new: &[u8], text: &[u8]) -> u8
+fn check_text<R: Outside>(rt: &R, edition: Edition, old: &[u8], new: &[u8], text: &[u8]) -> u8
     ensures { result < 4 }
 {
     let mut steps = [0u32; OFFERED];
     let count = lines::read_steps(text, &mut steps);
     if count > OFFERED {
         return words::misused(
+            rt,
             b"a line of steps is an address, a blank, and a byte as two hex digits",
         );
     }
-    check(edition, old, new, &steps[..count])
+    check(rt, edition, old, new, &steps[..count])
 }
 
 // Opens the file that word i names.
-fn open_at(i: usize) -> i32 {
-    let mut path = io::buffer();
-    let length = os::arg(i, &mut path);
-    files::open(&path[..length])
+fn open_at<R: Outside>(rt: &R, i: usize) -> Option<Source<R::Reader, R::File>> {
+    let mut path = [0u8; 4096];
+    let length = files::arg(rt, i, &mut path);
+    files::open(rt, &path[..length])
 }
 
 // One byte more than a card has is read of each: a card with something behind it is none.
-fn plan_files(edition: Edition) -> u8
+fn plan_files<R: Outside>(rt: &R, edition: Edition) -> u8
     ensures { result < 4 }
 {
-    let one = open_at(3);
-    if one < 0 {
+    let Some(mut one) = open_at(rt, 3) else {
         return words::FAILED;
-    }
-    let two = open_at(4);
-    if two < 0 {
+    };
+    let Some(mut two) = open_at(rt, 4) else {
         return words::FAILED;
-    }
+    };
     let mut old = [0u8; 257];
-    let m = io::read_full(one, &mut old);
+    let m = files::read_full(&mut one, &mut old);
     let mut new = [0u8; 257];
-    let n = io::read_full(two, &mut new);
-    plan(edition, &old[..m], &new[..n])
+    let n = files::read_full(&mut two, &mut new);
+    plan(rt, edition, &old[..m], &new[..n])
 }
 
-fn check_open(edition: Edition, one: i32, two: i32, three: i32) -> u8
+fn check_open<R: Outside>(
+    rt: &R,
+    edition: Edition,
+    one: &mut impl Read,
+    two: &mut impl Read,
+    three: &mut impl Read,
+) -> u8
     ensures { result < 4 }
 {
     let mut old = [0u8; 257];
-    let m = io::read_full(one, &mut old);
+    let m = files::read_full(one, &mut old);
     let mut new = [0u8; 257];
-    let n = io::read_full(two, &mut new);
-    let mut text = io::buffer();
-    let k = io::read_full(three, &mut text);
-    check_text(edition, &old[..m], &new[..n], &text[..k])
+    let n = files::read_full(two, &mut new);
+    let mut text = [0u8; 4096];
+    let k = files::read_full(three, &mut text);
+    check_text(rt, edition, &old[..m], &new[..n], &text[..k])
 }
 
-fn check_files(edition: Edition) -> u8
+fn check_files<R: Outside>(rt: &R, edition: Edition) -> u8
     ensures { result < 4 }
 {
-    let one = open_at(3);
-    if one < 0 {
+    let Some(mut one) = open_at(rt, 3) else {
         return words::FAILED;
-    }
-    let two = open_at(4);
-    if two < 0 {
+    };
+    let Some(mut two) = open_at(rt, 4) else {
         return words::FAILED;
-    }
-    let three = open_at(5);
-    if three < 0 {
+    };
+    let Some(mut three) = open_at(rt, 5) else {
         return words::FAILED;
-    }
-    check_open(edition, one, two, three)
+    };
+    check_open(rt, edition, &mut one, &mut two, &mut three)
 }
 
-pub fn run() -> u8
+pub fn run<R: Outside>(rt: &R) -> u8
     ensures { result < 4 }
 {
-    if os::arg_count() != 5 {
-        return words::misused(b"plan takes an edition and two files");
+    if files::arg_count(rt) != 5 {
+        return words::misused(rt, b"plan takes an edition and two files");
     }
-    let chosen = tables::edition_at(2);
+    let chosen = tables::edition_at(rt, 2);
     if chosen.status != words::DONE {
         return chosen.status;
     }
-    plan_files(chosen.edition)
+    plan_files(rt, chosen.edition)
 }
 
-pub fn run_check() -> u8
+pub fn run_check<R: Outside>(rt: &R) -> u8
     ensures { result < 4 }
 {
-    if os::arg_count() != 6 {
-        return words::misused(b"check-plan takes an edition, two files, and one with steps");
+    if files::arg_count(rt) != 6 {
+        return words::misused(
+            rt,
+            b"check-plan takes an edition, two files, and one with steps",
+        );
     }
-    let chosen = tables::edition_at(2);
+    let chosen = tables::edition_at(rt, 2);
     if chosen.status != words::DONE {
         return chosen.status;
     }
-    check_files(chosen.edition)
+    check_files(rt, chosen.edition)
 }

@@ -13,7 +13,8 @@ ghost use Rattle.std.specs.Prelude.{◌<◌};
 
 use card::Record;
 use edition::Edition;
-use libc::STDOUT_FILENO;
+use files::Outside;
+use std::io::Read;
 
 const PEOPLE: u8 = 0;
 
@@ -22,13 +23,13 @@ const TEXT: u8 = 1;
 const JSON: u8 = 2;
 
 // Writes what stands in a room up to a place.
-fn write_out(room: &[u8], size: usize) -> u8
+fn write_out<R: Outside>(rt: &R, room: &[u8], size: usize) -> u8
     ensures { result < 4 }
 {
     if size > room.len() {
-        return words::written(false);
+        return words::written(rt, false);
     }
-    words::written(io::write_all(STDOUT_FILENO, values::part(room, 0, size)))
+    words::written(rt, files::write_all(rt, values::part(room, 0, size)))
 }
 
 // Puts a record in the form that was asked for.
@@ -43,46 +44,45 @@ fn put_record(room: &mut [u8], content: Record, form: u8) -> usize {
 }
 
 // Shows a record.
-fn show_record(content: Record, form: u8) -> u8
+fn show_record<R: Outside>(rt: &R, content: Record, form: u8) -> u8
     ensures { result < 4 }
 {
-    let mut room = io::buffer();
+    let mut room = [0u8; 4096];
     let size = put_record(&mut room, content, form);
-    write_out(&room, size)
+    write_out(rt, &room, size)
 }
 
 // Shows the card in an open file.
-fn show_card(edition: Edition, file: i32, form: u8) -> u8
+fn show_card<R: Outside>(rt: &R, edition: Edition, file: &mut impl Read, form: u8) -> u8
     ensures { result < 4 }
 {
     let mut image = [0u8; 257];
-    let length = io::read_full(file, &mut image);
+    let length = files::read_full(file, &mut image);
     let reading = reader::read(edition, &image[..length]);
     let refusal = reading.refusal;
     if refusal.number != 0 {
-        words::say_refused(edition, &image[..length]);
+        words::say_refused(rt, edition, &image[..length]);
         return words::REFUSED;
     }
-    show_record(reading.content, form)
+    show_record(rt, reading.content, form)
 }
 
 // Shows the card in the file that word i names.
-fn show_file(edition: Edition, i: usize, form: u8) -> u8
+fn show_file<R: Outside>(rt: &R, edition: Edition, i: usize, form: u8) -> u8
     ensures { result < 4 }
 {
-    let mut path = io::buffer();
-    let length = os::arg(i, &mut path);
-    let file = files::open(&path[..length]);
-    if file < 0 {
+    let mut path = [0u8; 4096];
+    let length = files::arg(rt, i, &mut path);
+    let Some(mut file) = files::open(rt, &path[..length]) else {
         return words::FAILED;
-    }
-    show_card(edition, file, form)
+    };
+    show_card(rt, edition, &mut file, form)
 }
 
 // The form that word i names; for another word the one for people.
-fn form_at(i: usize) -> u8 {
+fn form_at<R: Outside>(rt: &R, i: usize) -> u8 {
     let mut word = [0u8; 16];
-    let length = os::arg(i, &mut word);
+    let length = files::arg(rt, i, &mut word);
     if ground_parts::is_same(&word[..length], b"--text") {
         return TEXT;
     }
@@ -92,56 +92,59 @@ fn form_at(i: usize) -> u8 {
     PEOPLE
 }
 
-fn misused() -> u8
+fn misused<R: Outside>(rt: &R) -> u8
     ensures { result < 4 }
 {
-    words::misused(b"show takes one file, and before it an edition, and --text or --json")
+    words::misused(
+        rt,
+        b"show takes one file, and before it an edition, and --text or --json",
+    )
 }
 
 // One word before the file.
-fn run_one() -> u8
+fn run_one<R: Outside>(rt: &R) -> u8
     ensures { result < 4 }
 {
-    let form = form_at(2);
+    let form = form_at(rt, 2);
     if form != PEOPLE {
-        return show_file(words::default_edition(), 3, form);
+        return show_file(rt, words::default_edition(), 3, form);
     }
-    let chosen = tables::edition_at(2);
+    let chosen = tables::edition_at(rt, 2);
     if chosen.status != words::DONE {
         return chosen.status;
     }
-    show_file(chosen.edition, 3, PEOPLE)
+    show_file(rt, chosen.edition, 3, PEOPLE)
 }
 
 // Two words before the file: an edition, which is word i, and a form, in any order.
-fn run_two(i: usize, form: u8) -> u8
+fn run_two<R: Outside>(rt: &R, i: usize, form: u8) -> u8
     ensures { result < 4 }
 {
     if form == PEOPLE {
-        return misused();
+        return misused(rt);
     }
-    let chosen = tables::edition_at(i);
+    let chosen = tables::edition_at(rt, i);
     if chosen.status != words::DONE {
         return chosen.status;
     }
-    show_file(chosen.edition, 4, form)
+    show_file(rt, chosen.edition, 4, form)
 }
 
-pub fn run() -> u8
+pub fn run<R: Outside>(rt: &R) -> u8
     ensures { result < 4 }
 {
-    let count = os::arg_count();
+    let count = files::arg_count(rt);
     if count == 3 {
-        return show_file(words::default_edition(), 2, PEOPLE);
+        return show_file(rt, words::default_edition(), 2, PEOPLE);
     }
     if count == 4 {
-        return run_one();
+        return run_one(rt);
     }
     if count != 5 {
-        return misused();
+        return misused(rt);
     }
-    if form_at(2) == PEOPLE {
-        return run_two(2, form_at(3));
+    if form_at(rt, 2) == PEOPLE {
+        return run_two(rt, 2, form_at(rt, 3));
     }
-    run_two(3, form_at(2))
+    run_two(rt, 3, form_at(rt, 2))
 }

@@ -9,71 +9,74 @@ mod nested;
 ghost use Rattle.std.specs.Prelude.{◌<◌};
 
 use edition::Edition;
-use libc::STDOUT_FILENO;
+use files::Outside;
 
 // Writes the text of a table.
-fn print(edition: Edition) -> u8
+fn print<R: Outside>(rt: &R, edition: Edition) -> u8
     ensures { result < 4 }
 {
-    let mut room = io::buffer();
+    let mut room = [0u8; 4096];
     let size = put_table::put(edition, &mut room);
-    words::written(io::write_all(STDOUT_FILENO, &room[..size]))
+    words::written(rt, files::write_all(rt, &room[..size]))
 }
 
-fn run_print() -> u8
+fn run_print<R: Outside>(rt: &R) -> u8
     ensures { result < 4 }
 {
-    let chosen = tables::table_at(2);
+    let chosen = tables::table_at(rt, 2);
     if chosen.status != words::DONE {
         return chosen.status;
     }
-    print(chosen.edition)
+    print(rt, chosen.edition)
 }
 
-fn run_check() -> u8
+fn run_check<R: Outside>(rt: &R) -> u8
     ensures { result < 4 }
 {
-    let chosen = tables::table_at(3);
+    let chosen = tables::table_at(rt, 3);
     if chosen.status != words::DONE {
         return chosen.status;
     }
-    check::check(chosen.edition)
+    check::check(rt, chosen.edition)
 }
 
-fn run_nested(to_file: bool) -> u8
+fn run_nested<R: Outside>(rt: &R, to_file: bool) -> u8
     ensures { result < 4 }
 {
-    let inner = tables::table_at(3);
+    let inner = tables::table_at(rt, 3);
     if inner.status != words::DONE {
         return inner.status;
     }
-    let outer = tables::table_at(4);
+    let outer = tables::table_at(rt, 4);
     if outer.status != words::DONE {
         return outer.status;
     }
-    nested::nested(inner.edition, outer.edition, to_file)
+    nested::nested(rt, inner.edition, outer.edition, to_file)
 }
 
 // The command, by its first word.
-fn run_word(word: &[u8], count: usize) -> u8
+fn run_word<R: Outside>(rt: &R, word: &[u8], count: usize) -> u8
     ensures { result < 4 }
 {
     if count == 3 {
-        return run_print();
+        return run_print(rt);
     }
     if ground_parts::is_same(word, b"check") & (count == 4) {
-        return run_check();
+        return run_check(rt);
     }
     if ground_parts::is_same(word, b"nested") & ((count == 5) | (count == 6)) {
-        return run_nested(count == 6);
+        return run_nested(rt, count == 6);
     }
-    words::misused(b"table takes an edition, or check and one, or nested and two")
+    words::misused(
+        rt,
+        b"table takes an edition, or check and one, or nested and two",
+    )
 }
 
-pub fn run() -> u8
+pub fn run<R: Outside>(rt: &R) -> u8
     ensures { result < 4 }
 {
     let mut word = [0u8; 16];
-    let length = os::arg(2, &mut word);
-    run_word(&word[..length], os::arg_count())
+    let length = files::arg(rt, 2, &mut word);
+    run_word(rt, &word[..length], files::arg_count(rt))
 }

@@ -5,51 +5,54 @@
 
 ghost use Rattle.std.specs.Prelude.{◌<◌};
 
-use libc::STDOUT_FILENO;
+use files::Outside;
 use tree::TreeAnswer;
 
-fn write(text: &[u8]) -> bool {
-    io::write_all(STDOUT_FILENO, text)
+fn write<R: Outside>(rt: &R, text: &[u8]) -> bool {
+    files::write_all(rt, text)
 }
 
 // What a refusal's number means.
-fn explain(number: u8) {
+fn explain<R: Outside>(rt: &R, number: u8) {
     if number == 50 {
-        words::say(b"the tag is 00, or its low five bits are all ones");
+        words::say(rt, b"the tag is 00, or its low five bits are all ones");
     }
     if number == 51 {
-        words::say(b"this is no length field, or it is cut short");
+        words::say(rt, b"this is no length field, or it is cut short");
     }
     if number == 52 {
-        words::say(b"the value goes past the end of the list that it stands in");
+        words::say(
+            rt,
+            b"the value goes past the end of the list that it stands in",
+        );
     }
     if number == 53 {
-        words::say(b"the object is deeper than 6");
+        words::say(rt, b"the object is deeper than 6");
     }
     if number == 54 {
-        words::say(b"there are more than 4096 bytes");
+        words::say(rt, b"there are more than 4096 bytes");
     }
 }
 
-fn print_refusal(answer: TreeAnswer) -> u8
+fn print_refusal<R: Outside>(rt: &R, answer: TreeAnswer) -> u8
     ensures { result < 4 }
 {
-    explain(answer.number);
-    let is_begun = write(b"REFUSED ");
-    let is_told = io::print_decimal(STDOUT_FILENO, answer.number as u64);
-    let is_between = write(b" ");
-    let is_placed = io::print_decimal(STDOUT_FILENO, answer.place as u64);
-    let is_ended = write(b" 00 0 0\n");
+    explain(rt, answer.number);
+    let is_begun = write(rt, b"REFUSED ");
+    let is_told = files::print_decimal(rt, answer.number as u64);
+    let is_between = write(rt, b" ");
+    let is_placed = files::print_decimal(rt, answer.place as u64);
+    let is_ended = write(rt, b" 00 0 0\n");
     if is_begun & is_told & is_between & is_placed & is_ended {
         return words::REFUSED;
     }
-    words::written(false)
+    words::written(rt, false)
 }
 
-fn print_indent(depth: u16) {
+fn print_indent<R: Outside>(rt: &R, depth: u16) {
     let mut level = 1;
     while level < depth {
-        write(b"  ");
+        write(rt, b"  ");
         level += 1;
     }
 }
@@ -66,7 +69,7 @@ fn is_text(value: &[u8]) -> bool {
 }
 
 // The value of an object whose tag stands at `at`, where it is text of at most 32 bytes: its length then takes one byte.
-fn print_value(bytes: &[u8], at: u16, length: u16) {
+fn print_value<R: Outside>(rt: &R, bytes: &[u8], at: u16, length: u16) {
     let start = at as usize + 2;
     let end = start + length as usize;
     if length > 32 {
@@ -77,8 +80,8 @@ fn print_value(bytes: &[u8], at: u16, length: u16) {
     }
     let value = &bytes[start..end];
     if is_text(value) {
-        write(b" ");
-        write(value);
+        write(rt, b" ");
+        write(rt, value);
     }
 }
 
@@ -88,69 +91,68 @@ fn word_at(room: &[u16], object: u16, word: u8) -> u16 {
     if i < room.len() { room[i] } else { 0 }
 }
 
-fn print_object(bytes: &[u8], room: &[u16], object: u16) -> bool {
+fn print_object<R: Outside>(rt: &R, bytes: &[u8], room: &[u16], object: u16) -> bool {
     let tag = word_at(room, object, 0) % 256;
     let at = word_at(room, object, 2);
     let length = word_at(room, object, 3);
     let mut digits = [0u8; 2];
     ground_digits::put_hex(&mut digits, 0, tag as u8);
-    print_indent(word_at(room, object, 1));
-    write(&digits);
-    write(b" ");
-    io::print_decimal(STDOUT_FILENO, at as u64);
-    write(b" ");
-    io::print_decimal(STDOUT_FILENO, length as u64);
+    print_indent(rt, word_at(room, object, 1));
+    write(rt, &digits);
+    write(rt, b" ");
+    files::print_decimal(rt, at as u64);
+    write(rt, b" ");
+    files::print_decimal(rt, length as u64);
     if tag & 0x20 == 0 {
-        print_value(bytes, at, length);
+        print_value(rt, bytes, at, length);
     }
-    write(b"\n")
+    write(rt, b"\n")
 }
 
-fn print_objects(bytes: &[u8], room: &[u16], count: u16) -> u8
+fn print_objects<R: Outside>(rt: &R, bytes: &[u8], room: &[u16], count: u16) -> u8
     ensures { result < 4 }
 {
     let mut object = 0;
     while object < count {
-        if !print_object(bytes, room, object) {
-            return words::written(false);
+        if !print_object(rt, bytes, room, object) {
+            return words::written(rt, false);
         }
         object += 1;
     }
     words::DONE
 }
 
-fn list_bytes(bytes: &[u8]) -> u8
+fn list_bytes<R: Outside>(rt: &R, bytes: &[u8]) -> u8
     ensures { result < 4 }
 {
     let mut room = [0u16; 8192];
     let answer = tree_list::list_tree(bytes, &mut room);
     if answer.number != 0 {
-        return print_refusal(answer);
+        return print_refusal(rt, answer);
     }
-    print_objects(bytes, &room, answer.count)
+    print_objects(rt, bytes, &room, answer.count)
 }
 
-fn list_file(path: &[u8]) -> u8
+fn list_file<R: Outside>(rt: &R, path: &[u8]) -> u8
     ensures { result < 4 }
 {
-    let file = files::open(path);
-    if file < 0 {
+    let Some(mut file) = files::open(rt, path) else {
         return words::FAILED;
-    }
+    };
     // One byte more than may be: a longer file is refused.
     let mut bytes = [0u8; 4097];
-    let length = io::read_full(file, &mut bytes);
-    list_bytes(&bytes[..length])
+    let length = files::read_full(&mut file, &mut bytes);
+    list_bytes(rt, &bytes[..length])
 }
 
 // Runs the command and answers its status.
-pub fn run() -> u8
+pub fn run<R: Outside>(rt: &R) -> u8
     ensures { result < 4 }
 {
-    if os::arg_count() != 3 {
-        return words::misused(b"tree takes one file");
+    if files::arg_count(rt) != 3 {
+        return words::misused(rt, b"tree takes one file");
     }
-    let mut path = io::buffer();
-    let length = os::arg(2, &mut path);
-    list_file(&path[..length])
+    let mut path = [0u8; 4096];
+    let length = files::arg(rt, 2, &mut path);
+    list_file(rt, &path[..length])
 }

@@ -1,3 +1,2 @@
--- What the proofs by hand share, and what a view of an accepted image shows.
-pub mod Held
+-- What a view of an accepted image shows.
 pub mod Shown

@@ -1,8 +1,8 @@
 -- The parts of 479 lent bytes: its ends, its objects one by one. Assumes nothing.
 use Prim.Native.Nat.{ℕ, zero, suc, ◌+◌, ◌*◌, ◌<◌}
 use native.Mathlib.Nat.{zero-mul, suc-mul, add_comm, le_of_suc-le-suc, not-suc-le-zero}
-use mathlib.Core.Path.{◌≡◌, refl, ap, ◌∙◌}
-use mathlib.Core.List.{List, [], ◌∷◌, map}
+use mathlib.Core.Path.{◌≡◌, ap, ◌∙◌}
+use mathlib.Core.List.{List, []}
 use lib.ListN.{length, get_or, take, drop, get_or-map}
 use lib.Seq.{drop-drop}
 use Rattle.card.specs.Content.{no_object}

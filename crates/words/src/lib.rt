@@ -10,8 +10,8 @@ mod wrong;
 ghost use Rattle.std.specs.Prelude.{◌≡◌, ◌<◌};
 
 use edition::Edition;
+use files::Outside;
 pub use hex::put_hex_word;
-use libc::{STDERR_FILENO, STDOUT_FILENO};
 pub use listed::list_image;
 pub use wrong::{put_name, say_refused};
 
@@ -24,55 +24,55 @@ pub const MISUSED: u8 = 2;
 pub const FAILED: u8 = 3;
 
 // Writes a line to standard error.
-pub fn say(text: &[u8]) {
-    io::write_all(STDERR_FILENO, b"kvk: ");
-    io::write_all(STDERR_FILENO, text);
-    io::write_all(STDERR_FILENO, b"\n");
+pub fn say<R: Outside>(rt: &R, text: &[u8]) {
+    files::write_all(&rt.stderr(), b"kvk: ");
+    files::write_all(&rt.stderr(), text);
+    files::write_all(&rt.stderr(), b"\n");
 }
 
 // Says what is wrong with the words, and answers the status of that.
-pub fn misused(text: &[u8]) -> u8
+pub fn misused<R: Outside>(rt: &R, text: &[u8]) -> u8
     ensures { result ≡ 2 }
 {
-    io::write_all(STDERR_FILENO, b"kvk: ");
-    io::write_all(STDERR_FILENO, text);
-    io::write_all(STDERR_FILENO, b"; 'kvk help' says more\n");
+    files::write_all(&rt.stderr(), b"kvk: ");
+    files::write_all(&rt.stderr(), text);
+    files::write_all(&rt.stderr(), b"; 'kvk help' says more\n");
     MISUSED
 }
 
 // Writes the first bytes of a room to a file.
-pub(crate) fn put_first(file: i32, room: &[u8], size: usize) {
+pub(crate) fn put_first<P: Print>(to: &P, room: &[u8], size: usize) {
     if size <= room.len() {
-        io::write_all(file, &room[..size]);
+        files::write_all(to, &room[..size]);
     }
 }
 
 // Writes the line of a list with this number, counted from 0, to a file; a line has 128 bytes at most.
-pub fn put_line(file: i32, list: &[u8], number: usize) {
+pub fn put_line<P: Print>(to: &P, list: &[u8], number: usize) {
     let mut room = [0u8; 128];
     let end = line_names::put_line(&mut room, 0, list, number);
-    put_first(file, &room, end);
+    put_first(to, &room, end);
 }
 
 // The status of what was or was not written.
-pub fn written(is_written: bool) -> u8
+pub fn written<R: Outside>(rt: &R, is_written: bool) -> u8
     ensures { result < 4 }
 {
     if is_written {
         return DONE;
     }
-    say(b"the answer could not be written");
+    say(rt, b"the answer could not be written");
     FAILED
 }
 
 // Writes a refusal, and answers the status of that.
-pub fn refused(line: &[u8]) -> u8
+pub fn refused<R: Outside>(rt: &R, line: &[u8]) -> u8
     ensures { result < 4 }
 {
-    if io::write_all(STDOUT_FILENO, line) {
+    if files::write_all(rt, line) {
         return REFUSED;
     }
-    written(false)
+    written(rt, false)
 }
 
 // The edition with this number, 1 or 2.

@@ -22,7 +22,7 @@ add-result-2 c = search rules
 
 returns : tie.Need-returns
 unfolding size_in
-returns c = (rw (c.before.before.type_size.ensures.0, c.before.size-of2.ensures.0, c.size-of3.ensures.0), omega arith)
+returns c = (rw (c.before.before.size_of.ensures.0, c.before.size-of2.ensures.0, c.size-of3.ensures.0), omega arith)
 
 pub size-in-spec : {M : Type 1} → statement M
 size-in-spec =

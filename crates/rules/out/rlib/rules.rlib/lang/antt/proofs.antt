@@ -1,3 +1,0 @@
--- The laws of the definitions.
-pub mod Verdicts
-pub mod Tables

@@ -1,3 +1,0 @@
--- The definitions that the contracts of `rules` cite.
-pub mod Values
-pub mod Kinds
