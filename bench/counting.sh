@@ -1,6 +1,6 @@
 # shellcheck shell=sh disable=SC2154
-# Sourced behind tests/x86-64.sh. Counts the instructions between the marks of a program: under the emulator by its log, a line
-# for each instruction, elsewhere by valgrind. Both count each turn of a string instruction.
+# Sourced behind tests/x86-64.sh. Counts the instructions between the marks of a program: by valgrind, or, where EMULATOR names
+# qemu-x86_64, by its log, a line for each instruction. Both count each turn of a string instruction.
 
 build_counter() {
     if [ -n "$emulator" ]; then

@@ -1,6 +1,6 @@
 # shellcheck shell=sh disable=SC2154
-# Sourced by kvk in the repository. Builds in a fresh folder under target/, one run at a time, and moves what is built into place
-# when all of it is proved: whatever interrupts a build leaves target/ as it was.
+# Sourced by kvk in the repository. Rt builds in the folders of the crates, one run at a time, and what is built goes into target/
+# when all of it is proved: whatever interrupts a build leaves target/ as it was, and rt goes on there with what it had proved.
 
 target=$root/target
 fresh=''
@@ -8,8 +8,13 @@ log=''
 job=''
 progress=''
 
+# What a proof reads. Beside it a crate's folder has what rt keeps there, which changes with each build.
+find_sources() { # TEST..
+    find "$root"/crates/*/src "$root"/crates/*/specs "$root"/crates/*/proofs "$root/crates.txt" "$@"
+}
+
 is_built() { # PRODUCT
-    test -s "$target/$1" && test -z "$(find "$root/crates" "$root/crates.txt" -newer "$target/$1" | head -n 1)"
+    test -s "$target/$1" && test -z "$(find_sources -newer "$target/$1" | head -n 1)"
 }
 
 # Progress
@@ -25,13 +30,13 @@ count_crates() { # CRATE
             for (i = 1; i <= n; i++)
                 visit(list[i])
         }
-        !/^#/ { needs[$1] = $2 }
+        !/^#/ { sub(/ .*/, "", $1); needs[$1] = $2 }
         END { visit(wanted); print count }' "$root/crates.txt"
 }
 
-# How far rt is, by its log.
+# How far rt is, by its log, where each crate has its heading once it is done.
 how_far() { # CRATES
-    [ -z "$log" ] || echo ", $(grep -c '^rt: [a-z0-9_]* proved' "$log") of $1 crates proved"
+    [ -z "$log" ] || echo ", $(grep '^== [a-z0-9_]*$' "$log" | grep -cv summary) of $1 crates proved"
 }
 
 # Says each second on a terminal, and each half minute elsewhere, what is going on; until it is killed or this script has ended.
@@ -131,57 +136,64 @@ give_lock() {
 
 # The build
 
-# A folder with the crates and with what is proved already. Nobody else builds now, so that other such folders are left over.
+# A folder for what is built. Nobody else builds now, so that other such folders are left over.
 make_fresh() {
     rm -rf "$target"/build.*
     fresh=$(mktemp -d "$target/build.XXXXXX") || die "$target cannot be written"
     touch "$fresh/began"
-    mkdir "$fresh/target"
-    cp -R "$root/crates" "$root/crates.txt" "$fresh" || die "the crates could not be copied to $fresh"
-    for part in stamp rlib bin; do
-        [ ! -d "$target/$part" ] || cp -R "$target/$part" "$fresh/target" || die "$target/$part could not be copied to $fresh"
-    done
-    [ -s "$fresh/target/bin/tool" ] || rm -f "$fresh/target/stamp/tool"
 }
 
-prove() { # WHAT CRATE VERB
+# As many checks at a time as there are processors, and three gigabytes of memory for each.
+at_once() {
+    awk -v most="$(nproc)" '/^MemAvailable:/ { fit = int($2 / 3000000) } END { n = fit < most ? fit : most; print n < 1 ? 1 : n }' /proc/meminfo
+}
+
+# Proves the crates that a crate needs, lowest first, several at a time, and then builds it.
+prove() { # WHAT CRATE COMMAND WORD..
+    what=$1
+    crate=$2
+    shift 2
     log=$(mktemp "$target/kvk-log.XXXXXX") || die "$target cannot be written"
-    crates=$(count_crates "$2")
-    say "building the $1: $crates crates have to be proved, which takes about ten minutes from nothing"
-    show_progress "building the $1" "$crates"
-    setsid env -C "$fresh" rt "$3" "$2" </dev/null >"$log" 2>&1 9>&- &
+    crates=$(count_crates "$crate")
+    say "building the $what: $crates crates have to be proved, which takes a quarter of an hour and more from nothing"
+    show_progress "building the $what" "$crates"
+    # shellcheck disable=SC2016
+    setsid env -C "$root/crates/$crate" sh -c 'rt all check --jobs "$1" || exit; shift; rt "$@"' sh "$(at_once)" "$@" </dev/null >"$log" 2>&1 9>&- &
     attend $!
     status=$?
     hide_progress
     return $status
 }
 
-# The stamps say what is proved: they go first and come last, so that nothing is taken for proved that is not in place.
-move_into_place() { # PRODUCT
-    mkdir -p "$target/$(dirname "$1")"
-    touch -r "$fresh/began" "$fresh/target/$1"
-    if diff -r "$target/stamp" "$fresh/target/stamp" >/dev/null 2>&1; then
-        mv "$fresh/target/$1" "$target/$1"
-        return
-    fi
-    rm -rf "$target/stamp"
-    mv "$fresh/target/$1" "$target/$1" || return
-    rm -rf "$target/rlib"
-    mv "$fresh/target/rlib" "$target/rlib" && mv "$fresh/target/stamp" "$target/stamp"
+# What is built is as old as the moment when the build began: an edit in the meantime is newer.
+move_into_place() { # MADE PRODUCT
+    mkdir -p "$target/$(dirname "$2")"
+    cp "$root/crates/$1" "$fresh/made" && touch -r "$fresh/began" "$fresh/made" && mv "$fresh/made" "$target/$2"
 }
 
-build_locked() { # WHAT PRODUCT CRATE VERB
+# Rt has no command that builds a program and does not run it: how a run ends says nothing of the build, and its log does.
+has_built() { # STATUS MADE
+    [ "$1" -eq 0 ] || grep -q "^rt: running $2;" "$log"
+}
+
+build_locked() { # WHAT PRODUCT CRATE MADE COMMAND WORD..
     make_fresh
-    if ! prove "$1" "$3" "$4" || [ ! -s "$fresh/target/$2" ]; then
+    what=$1
+    product=$2
+    crate=$3
+    made=$4
+    shift 4
+    prove "$what" "$crate" "$@"
+    if ! has_built $? "$made" || [ ! -s "$root/crates/$crate/$made" ]; then
         tail -n 10 "$log" >&2
-        die "the $1 was not built; $log has all that rt said"
+        die "the $what was not built; $log has all that rt said"
     fi
-    move_into_place "$2" || die "what was built could not be moved to $target"
+    move_into_place "$crate/$made" "$product" || die "what was built could not be moved to $target"
     rm -f "$log"
     log=''
 }
 
-build() { # WHAT PRODUCT CRATE VERB
+build() { # WHAT PRODUCT CRATE MADE COMMAND WORD..
     is_built "$2" && return
     need_target "$1"
     watch_signals
@@ -200,10 +212,10 @@ need_commands() {
 
 build_program() {
     need_commands
-    build program bin/tool tool check
+    build program bin/tool tool out/tool run -- length 00
 }
 
 build_library() {
     need_commands
-    build library staticlib/libkvk.a kvk staticlib
+    build library staticlib/libkvk.a kvk_c out/libkvk_c.a lib
 }

@@ -64,7 +64,6 @@ put_program() {
     put 755 "$program" libexec/kvk/tool
     put 755 "$libraries/ld-linux-x86-64.so.2" libexec/kvk/ld-linux-x86-64.so.2
     put 755 "$libraries/libc.so.6" libexec/kvk/libc.so.6
-    [ -z "$emulator" ] || put 755 "$emulator" libexec/kvk/qemu-x86_64
 }
 
 put_library() {

@@ -1,6 +1,6 @@
 # shellcheck shell=sh
-# Sourced at the top of the repository. The library's archive is for x86-64: elsewhere programs are
-# built by a cross compiler, statically, and run under the emulator of the toolchain.
+# Sourced at the top of the repository. The library's archive and the kit that builds it are for x86-64 alone.
+# EMULATOR, if it is set, is an emulator under which programs run, and which bench/run counts by; the kit brings none.
 
 mkdir -p target/c
 
@@ -10,17 +10,12 @@ install_package() { # PACKAGE..
         { tail -n 20 target/c/install.log >&2; return 1; }
 }
 
-if [ "$(uname -m)" = x86_64 ]; then
-    compiler=${CC:-cc}
-    link=''
-    emulator=''
-else
-    compiler=x86_64-linux-gnu-gcc
-    link=-static
-    kit=$(dirname "$(dirname "$(rt doc)")")
-    emulator=$kit/on/$(uname -m)/toolchain/bin/qemu-x86_64
-    command -v $compiler >/dev/null || install_package gcc-x86-64-linux-gnu libc6-dev-amd64-cross
+if [ "$(uname -m)" != x86_64 ]; then
+    echo "this machine is $(uname -m): the kit and the library's archive are for x86-64 alone" >&2
+    exit 1
 fi
+compiler=${CC:-cc}
+emulator=${EMULATOR:-}
 
 build_library() {
     ./kvk build library
@@ -32,7 +27,7 @@ build() {
     shift
     echo "building target/c/$program" >&2
     "$compiler" -std=c99 -O2 -Wall -Wextra -Wpedantic -Wconversion -Wshadow -Werror -Iinclude -Isecond -Itests \
-        "$@" target/staticlib/libkvk.a $link -o "target/c/$program"
+        "$@" target/staticlib/libkvk.a -o "target/c/$program"
 }
 
 # All of the second program but what makes a program of it.
