@@ -1,0 +1,7 @@
+-- `day_build` meets its contract. Assumes nothing.
+use mathlib.Core.Path.{ap, ◌∙◌}
+use Rattle.calls_days.specs.Days.{day_packed}
+use Rattle.calls_days.proofs.day_build.Goals as goal
+
+pub returns : goal.returns
+returns c = record { value = c.packed_day.ensures ∙ ap day_packed c.build.ensures.value; room_after = c.build.ensures.room_after }
