@@ -63,12 +63,12 @@ fn write_beside<R: Outside>(rt: &R, path: &[u8], bytes: &[u8]) -> io::Result<()>
 }
 
 // Makes a file by a name of its own, writes it, and gives it its name when all of it is on its device.
+// A fault that stands: it goes on to the name also where writing failed, and only then says so (docs/PORT.md).
 fn write_new<R: Outside>(rt: &R, name: &mut [u8], path: &[u8], bytes: &[u8]) -> io::Result<()> {
     let file = beside::make_new(rt, name)?;
-    let written = match beside::fill(file, bytes) {
-        Ok(()) => beside::rename(rt, name, path),
-        Err(error) => Err(error),
-    };
+    let filled = beside::fill(file, bytes);
+    let named = beside::rename(rt, name, path);
+    let written = filled.and(named);
     if written.is_err() {
         let _ = beside::remove(rt, name);
     }
