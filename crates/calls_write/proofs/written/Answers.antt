@@ -34,7 +34,7 @@ returns-then-table-ne103-clause-value c =
 pub returns-then-table-ne103-clause-image_after : goal.returns-then-table-ne103-clause-image_after
 unfolding gate kvk_write kvk_write_image
 returns-then-table-ne103-clause-image_after c =
-    rw (eq-eqb _ _ c.if-bytes-ne479.false, eq-eqb _ _ c.if-image-ne256.false, ne_eqb _ _ c.if-table-ne103.true)
+    rw (eq-eqb _ 479 c.if-bytes-ne479.false, eq-eqb _ _ c.if-image-ne256.false, ne_eqb _ _ c.if-table-ne103.true)
     (refl)
 
 pub returns : goal.returns
