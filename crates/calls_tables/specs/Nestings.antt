@@ -7,7 +7,7 @@ use Rattle.nesting.specs.Decision.{nesting_of}
 use Rattle.wire_tables.specs.Tables.{lent_edition}
 use Rattle.wire.specs.Answers.{valued}
 
--- a table of another size is no well_formed edition
+-- a table of another size is no well-formed edition
 unfoldable pub tables_nesting : List ℕ → List ℕ → Nesting
 tables_nesting inner outer = nesting_of (lent_edition inner) (lent_edition outer)
 

@@ -22,7 +22,7 @@ pub data Short : List (List ℕ) → Type 0 where
   short-end : Short []
   short-more : {v : List ℕ} {vs : List (List ℕ)} → length v ≤ 28 → Short vs → Short (v ∷ vs)
 
--- what a well_formed row is met by has at most 28 bytes
+-- what a well-formed row is met by has at most 28 bytes
 row_short : (k : ℕ) (r : Row) (v : List ℕ) → row_formed (eqb k 16) r ≡ true → RowMet r v → length v ≤ 28
 row_short k r [] f m = omega arith
 row_short k r (b ∷ v) f m = permits_most r.lengths (suc (length v)) (row_within (eqb k 16) r f).small m.0

@@ -1,4 +1,4 @@
--- The rows of a well_formed edition: sixteen, and that of the checksum behind them. Assumes nothing.
+-- The rows of a well-formed edition: sixteen, and that of the checksum behind them. Assumes nothing.
 use Prim.Native.Nat.{ℕ, suc, ◌+◌}
 use native.Mathlib.Omega.{arith}
 use mathlib.Core.Path.{◌≡◌, refl, ap, ◌∙◌, subst}
@@ -17,7 +17,7 @@ use Rattle.card.specs.Rules.{Entry, entries, object_rows}
 use Rattle.card.specs.Walk.{tags_of, walk}
 use Rattle.card.proofs.Walks.{appraise, walk_body}
 
--- ---- row 8E is one row in every well_formed edition
+-- ---- row 8E is one row in every well-formed edition
 abbrev pub eight : Entry
 eight = record { tag = 0x8E; row = record { required = true; rule = Raw; lengths = 2 } }
 

@@ -35,7 +35,7 @@ template_refusal c = gate (leb 70 (template_length (objects_of c)) && leb (templ
 unfoldable pub number_refusal : ℕ → ℕ → Refusal
 number_refusal edition number = gate (eqb number edition) (refuse 22 0 0) none
 
--- what a content is refused with under a well_formed edition
+-- what a content is refused with under a well-formed edition
 unfoldable pub content_refusal : Edition → Content → Refusal
 content_refusal e c =
     or_else (ends_refusal c.first c.last)

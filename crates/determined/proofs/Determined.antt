@@ -144,7 +144,7 @@ number_tail_once κs a z y e f p q = p ∙ sym q
 pub check_front_once : (κs : _) (a : _) (z y : _) (e f : _) → check-front.Post κs a z e → check-front.Post κs a y f → z ≡ y
 check_front_once κs a z y e f p q = p ∙ sym q
 
--- of well_formed rows
+-- of well-formed rows
 pub list_objects_once : (κs : _) (a : _) (z y : _) (e f : _) → list-objects.Post κs a z e → list-objects.Post κs a y f → z ≡ y
 list_objects_once κs a z y e f p q = p ∙ sym q
 

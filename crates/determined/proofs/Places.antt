@@ -28,7 +28,7 @@ cut_once κs a z y e f p q = p ∙ sym q
 pub part_at_once : (κs : _) (a : _) (z y : _) (e f : _) → part_at_reads.Post κs a z e → part_at_reads.Post κs a y f → z.now ≡ y.now
 part_at_once κs a z y e f p q = p ∙ sym q
 
--- a function that is proved by hand has no `Post`: these take the equation that its contract ensures
+-- of a struct that holds a reference these take the equation that the contract ensures
 pub view_has_once : (v : View) (k : ℕ) (z y : Bool) → z ≡ is_there v.table k → y ≡ is_there v.table k → z ≡ y
 view_has_once v k z y p q = p ∙ sym q
 

@@ -70,7 +70,7 @@ bad_below k (r ∷ rs) j e = go (bad_below (suc k) rs j) (row_formed (eqb k 16) 
     go ih true h = omega (arith, ih h)
     go ih false h = let same : k ≡ j = cc in omega arith
 
--- ---- a well_formed edition: its rows, and its number
+-- ---- a well-formed edition: its rows, and its number
 rows_in : (number : ℕ) (f : Formed) → and_number number f ≡ Well → (f ≡ Well) × (eqb number 0 ≡ false)
 rows_in number Well e = (refl, go (eqb number 0) e)
   where
@@ -145,7 +145,7 @@ and_all : (a : Bool) → (a && true) ≡ a
 and_all true = refl
 and_all false = refl
 
--- a well_formed set of one length needs no other test
+-- a well-formed set of one length needs no other test
 set_only : (lengths s : ℕ) → set_formed s ≡ true → (set_formed lengths && eqb lengths s) ≡ eqb lengths s
 set_only lengths s f = go (eqb lengths s) refl
   where
@@ -203,7 +203,7 @@ checksum_formed r = go r.rule
     go Raw = raw r.required
     go NotD = and_none (set_formed r.lengths)
 
--- ---- the rows of a well_formed table
+-- ---- the rows of a well-formed table
 formed_in : (q : Bool) (f : Formed) (k : ℕ) → cond q f (Bad k) ≡ Well → (q ≡ true) × (f ≡ Well)
 formed_in true f k e = (refl, e)
 formed_in false f k e = (cc, cc)
@@ -221,7 +221,7 @@ formed_from_lem k (r ∷ rs) (suc i) e h = rw (add-suc k i, ← suc-add k i) (fo
 pub formed_row : (rs : List Row) (i : ℕ) → formed_from 0 rs ≡ Well → i < length rs → row_formed (eqb i 16) (get_or rs i no_row) ≡ true
 formed_row rs i e h = rw (zero-add i) at (formed_from_lem 0 rs i e h)
 
--- a well_formed set has not the length 0, and none past 28
+-- a well-formed set has not the length 0, and none past 28
 pub record Within28 (lengths : ℕ) : Type 0 where
   pub some : 0 < lengths
   pub even : lengths % 2 ≡ 0
@@ -239,7 +239,7 @@ set_within lengths h =
 pub row_within : (last : Bool) (r : Row) → row_formed last r ≡ true → Within28 r.lengths
 row_within last r h = set_within r.lengths (and_left (set_formed r.lengths) _ h)
 
--- each row of a well_formed table has such a set
+-- each row of a well-formed table has such a set
 pub formed_within : (rs : List Row) (i : ℕ) → formed_from 0 rs ≡ Well → i < length rs → Within28 (get_or rs i no_row).lengths
 formed_within rs i e h = row_within (eqb i 16) (get_or rs i no_row) (formed_row rs i e h)
 

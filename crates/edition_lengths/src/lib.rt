@@ -1,5 +1,5 @@
 // A set of lengths, kept in the bits of one number: whether a length is in it, its shortest and its longest.
-// Any number may be asked about; whether it is the set of a well_formed row is the edition's.
+// Any number may be asked about; whether it is the set of a well-formed row is the edition's.
 // 0 is no length; the shortest of the empty set is 32, its longest 0.
 #![tactic(auto)]
 

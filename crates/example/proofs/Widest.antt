@@ -1,4 +1,4 @@
--- The widest edition, in which every well_formed one is nested. Assumes nothing.
+-- The widest edition, in which every well-formed one is nested. Assumes nothing.
 use Prim.Native.Nat.{ℕ, zero, suc, ◌+◌, ◌*◌, ◌/◌, ◌%◌, ◌^◌, ◌<◌}
 use native.Mathlib.Omega.{arith}
 use native.Mathlib.Nat.{mod-eq_of_lt}

@@ -298,7 +298,7 @@ right_length s (suc n) f r p =
 least_of : (s : ℕ) → set_formed s ≡ true → Least s (shortest_of s)
 least_of s h = let w : Within28 s = set_within s h in shortest_least s w.some w.even (omega (arith, w.small))
 
--- a rule that is not within another of well_formed rows: the witness shows it
+-- a rule that is not within another of well-formed rows: the witness shows it
 pub witnessed : (last : Bool) (i o : Row) → row_formed last i ≡ true → row_formed last o ≡ true → rule_in i.lengths i.rule o.rule ≡ false
     → Against i o (value_of (witness_of i o))
 unfolding witness_of numbers_in

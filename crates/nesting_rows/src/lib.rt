@@ -1,5 +1,5 @@
 // The first row in card order of which a clause of nesting fails, and the clause.
-// Any rows may be handed over. Whether they are those of well_formed editions is the caller's to ask.
+// Any rows may be handed over. Whether they are those of well-formed editions is the caller's to ask.
 // Where no clause fails of any row, the row is 17, past the last.
 #![tactic(auto)]
 

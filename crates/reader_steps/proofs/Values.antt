@@ -43,7 +43,7 @@ body_value (suc k) (t ∷ ts) (v ∷ vs) rest h p =
     rw (n, append_assoc (object t v) (body ts vs) rest, drop-append-add (object t v) (body ts vs ++ rest) (length (body (take k ts) (take k vs)) + 2))
     (body_value k ts vs rest (omega arith) p)
 
--- ---- the lengths that a well_formed table allows
+-- ---- the lengths that a well-formed table allows
 met_short : (ts : List ℕ) (rs : List Row) (vs : List (List ℕ)) → ((i : ℕ) → i < length rs → (get_or rs i no_row).lengths < 2 ^ 29) → AllMet (entries ts rs) vs → (k : ℕ) → length (get_or vs k []) ≤ 28
 unfolding entries
 met_short [] rs vs w none_left k = nothing k

@@ -1,4 +1,4 @@
--- The clauses of a well_formed edition, numbered in document 01's order, and the first that fails.
+-- The clauses of a well-formed edition, numbered in document 01's order, and the first that fails.
 use Rattle.std.specs.Prelude.{ℕ, suc, ◌%◌, ◌^◌, Bool, true, false, cond, not, ◌&&◌, ◌||◌, List, [], ◌∷◌, eqb, ltb}
 use Rattle.edition.specs.declared.Row.{Row}
 use Rattle.edition.specs.declared.Edition.{Edition}

@@ -1,4 +1,4 @@
-// The first clause of a well_formed edition that fails of one row; 0 where none does.
+// The first clause of a well-formed edition that fails of one row; 0 where none does.
 // Any row may be handed over, as the row of the checksum or as another. Which row it is is the caller's.
 // Of the row of the checksum it is told that it is not required before its lengths and before its rule.
 #![tactic(auto)]

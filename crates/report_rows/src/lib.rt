@@ -1,4 +1,4 @@
-// The first row in card order of which a clause of a well_formed edition fails, and the clause.
+// The first row in card order of which a clause of a well-formed edition fails, and the clause.
 // Any rows may be handed over. The edition's number is the caller's.
 // Where no clause fails of any row, the row is 17, past the last.
 #![tactic(auto)]

@@ -1,4 +1,4 @@
--- The bytes that a well_formed edition is written as say that edition, and nothing is refused of it. Assumes nothing.
+-- The bytes that a well-formed edition is written as say that edition, and nothing is refused of it. Assumes nothing.
 use Prim.Native.Nat.{ℕ}
 use mathlib.Core.Path.{◌≡◌, refl, ap, ◌∙◌}
 use mathlib.Core.Bool.{true}

@@ -1,6 +1,6 @@
 // A view: a lent image and a table of places, with two calls that hand on to `lookup`.
 // Any image and any table may be held, also ones that do not belong together; a view of an image's own table is for its maker to make.
-// It is a struct that holds a reference, so a function that takes or has one is proved by hand; others take image and table, and call `lookup`.
+// It is a struct that holds a reference: a part that it hands out lives as long as the image, and longer than the view may.
 #![tactic(auto)]
 
 ghost use Rattle.std.specs.Prelude.{◌≡◌};

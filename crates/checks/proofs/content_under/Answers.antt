@@ -1,4 +1,4 @@
--- `checks::content_under` meets its contract: the edition is asked first, and the content only of a well_formed one. Assumes nothing.
+-- `checks::content_under` meets its contract: the edition is asked first, and the content only of a well-formed one. Assumes nothing.
 use mathlib.Core.Path.{sym, ap, ◌∙◌}
 use Rattle.edition.specs.Rows.{formed_of}
 use Rattle.card.specs.declared.Refusal.{Refusal}

@@ -1,4 +1,4 @@
--- `edition::last_formed` meets its contract: {1} is a well_formed set, so only rule, requirement and set are asked. Assumes nothing.
+-- `edition::last_formed` meets its contract: {1} is a well-formed set, so only rule, requirement and set are asked. Assumes nothing.
 use mathlib.Core.Path.{sym, ◌∙◌}
 use Rattle.edition.proofs.Rows.{checksum_formed}
 use Rattle.edition.proofs.last_formed.Goals as goal
