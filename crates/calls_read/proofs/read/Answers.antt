@@ -1,7 +1,6 @@
 -- `read` meets its contract: a room of another size is left, and else holds the record that was read. Assumes nothing.
-use mathlib.Core.Path.{◌≡◌, refl, ap, ◌∙◌}
+use mathlib.Core.Path.{refl, ap, ◌∙◌}
 use borrow.Author.Tests.{eq-eqb, ne_eqb}
-use lib.ListN.{length}
 use Rattle.card.specs.Refusals.{gate}
 use Rattle.wire.specs.Answers.{packed}
 use Rattle.calls_cards.specs.Calls.{kvk_read, kvk_read_room}
@@ -10,14 +9,12 @@ use Rattle.calls_read.proofs.read.Goals as goal
 pub returns-then-room-ne479-clause-value : goal.returns-then-room-ne479-clause-value
 unfolding gate kvk_read kvk_read_room
 returns-then-room-ne479-clause-value c =
-    let other : length c.args.room.now ≡ 479 → ⊥ = c.if-room-ne479.true in
-    rw (ne_eqb _ _ other) (c.pack.ensures ∙ ap packed c.new.ensures)
+    rw (ne_eqb _ 479 c.if-room-ne479.true) (c.pack.ensures ∙ ap packed c.new.ensures)
 
 pub returns-then-room-ne479-clause-room_after : goal.returns-then-room-ne479-clause-room_after
 unfolding gate kvk_read kvk_read_room
 returns-then-room-ne479-clause-room_after c =
-    let other : length c.args.room.now ≡ 479 → ⊥ = c.if-room-ne479.true in
-    rw (ne_eqb _ _ other) (refl)
+    rw (ne_eqb _ 479 c.if-room-ne479.true) (refl)
 
 pub returns-clause-value : goal.returns-clause-value
 unfolding gate kvk_read kvk_read_room

@@ -37,8 +37,7 @@ returns-then-numbers-ne0 c =
     c.check_numbers-numbers.ensures ∙ ap (number_refusal c.args.edition.number) (sym (lent_number c.args.bytes.now c.requires.1)) in
     let a = c.args in
     let rest = content_refusal a.edition (content_of (lent_record a.bytes.now)) in
-    sym (or_stop c.check_numbers-numbers.result rest c.if-numbers-ne0.true) ∙ ap (λ (x : Refusal). or_else x rest) (numbered)
-    ∙ sym (chained ∙ or_pass _ _ c.if-known-ne0.false)
+    sym (or_stop c.check_numbers-numbers.result rest c.if-numbers-ne0.true) ∙ ap (λ (x : Refusal). or_else x rest) (numbered) ∙ sym (chained ∙ or_pass _ _ c.if-known-ne0.false)
 
 pub refuse_content-requires : goal.refuse_content-requires
 refuse_content-requires c =

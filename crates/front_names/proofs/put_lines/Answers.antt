@@ -1,5 +1,5 @@
 -- `front_names::put_lines` meets its contract: one line or two, by the test. Assumes nothing.
-use Prim.Native.Nat.{◌≤◌, ◌<◌}
+use Prim.Native.Nat.{◌<◌}
 use native.Mathlib.Omega.{arith}
 use lib.ListN.{length}
 use Rattle.card.specs.Content.{content_of}
@@ -20,21 +20,15 @@ overflow_sub-end-then-line_end-le28 c = omega (arith, c.put_forenames-end.ensure
 
 pub put_part-behind_family-requires : goal.put_part-behind_family-requires
 put_part-behind_family-requires c =
-    let whole : length (spaced (forenames (content_of c.args.content)) (item c.args.content 9)) ≤ 28 =
-    end_held (forenames (content_of c.args.content)) (item c.args.content 9) _ c.line_end.result (names_long c.args.content c.args.room.now c.args.at c.requires.1 c.put_forenames-end.ensures) c.line_end.ensures (omega (arith, c.if-line_end-le28.true)) in
-    family_held c.args.content c.args.room.now c.args.at c.requires.1 c.put_forenames-end.ensures (whole)
+    family_held c.args.content c.args.room.now c.args.at c.requires.1 c.put_forenames-end.ensures (end_held _ _ _ _ (names_long c.args.content c.args.room.now c.args.at c.requires.1 c.put_forenames-end.ensures) c.line_end.ensures (omega (arith, c.if-line_end-le28.true)))
 
 pub overflow_sub-at : goal.overflow_sub-at
 overflow_sub-at c =
-    let whole : length (spaced (forenames (content_of c.args.content)) (item c.args.content 9)) ≤ 28 =
-    end_held (forenames (content_of c.args.content)) (item c.args.content 9) _ c.line_end.result (names_long c.args.content c.args.room.now c.args.at c.requires.1 c.put_forenames-end.ensures) c.line_end.ensures (omega (arith, c.if-line_end-le28.true)) in
-    family_end c.args.content c.args.room.now c.args.at c.requires.1 c.put_forenames-end.ensures (whole) c.put_part-behind_family.ensures
+    family_end c.args.content c.args.room.now c.args.at c.requires.1 c.put_forenames-end.ensures (end_held _ _ _ _ (names_long c.args.content c.args.room.now c.args.at c.requires.1 c.put_forenames-end.ensures) c.line_end.ensures (omega (arith, c.if-line_end-le28.true))) c.put_part-behind_family.ensures
 
 pub returns-then-line_end-le28 : goal.returns-then-line_end-le28
 returns-then-line_end-le28 c =
-    let whole : length (spaced (forenames (content_of c.args.content)) (item c.args.content 9)) ≤ 28 =
-    end_held (forenames (content_of c.args.content)) (item c.args.content 9) _ c.line_end.result (names_long c.args.content c.args.room.now c.args.at c.requires.1 c.put_forenames-end.ensures) c.line_end.ensures (omega (arith, c.if-line_end-le28.true)) in
-    one_there c.args.content c.args.room.now c.args.at c.requires.1 c.put_forenames-end.ensures (whole) c.put_part-behind_family.ensures c.fill.ensures.value c.fill.ensures.room_after
+    one_there c.args.content c.args.room.now c.args.at c.requires.1 c.put_forenames-end.ensures (end_held _ _ _ _ (names_long c.args.content c.args.room.now c.args.at c.requires.1 c.put_forenames-end.ensures) c.line_end.ensures (omega (arith, c.if-line_end-le28.true))) c.put_part-behind_family.ensures c.fill.ensures.value c.fill.ensures.room_after
 
 pub overflow_sub-at-2 : goal.overflow_sub-at-2
 overflow_sub-at-2 c =

@@ -8,7 +8,7 @@ use Rattle.listing.proofs.put_reading.Goals as goal
 pub returns-then-refusal-ne0 : goal.returns-then-refusal-ne0
 unfolding listing
 returns-then-refusal-ne0 c =
-    record { put = rw (ne_eqb _ _ c.if-refusal-ne0.true) c.put_refusal.ensures.put; upper_bound = omega (arith, c.put_refusal.ensures.upper_bound) }
+    record { put = rw (ne_eqb _ 0 c.if-refusal-ne0.true) c.put_refusal.ensures.put; upper_bound = omega (arith, c.put_refusal.ensures.upper_bound) }
 
 pub returns : goal.returns
 unfolding listing
