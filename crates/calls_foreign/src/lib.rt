@@ -8,28 +8,33 @@ ghost use Rattle.lengths.specs.Lengths.{length_read, length_told};
 ghost use Rattle.tree.specs.Answers.{tree_answer, tree_room};
 ghost use Rattle.calls_foreign.specs.Foreign.{packed_length, packed_tree, packed_back, PackedBack};
 
-use lengths::ToldLength;
-use tree::TreeAnswer;
-use tree_back::BackAnswer;
+use lengths::{Field, FieldError};
+use tree::Refusal;
+use tree_back::BackError;
 
-fn pack_length(field: ToldLength) -> u64
-    ensures { result ≡ packed_length field }
+fn pack_length(answer: Result<Field, FieldError>) -> u64
+    ensures { result ≡ packed_length (length_told answer) }
 {
-    field.number as u64 + (field.length as u64) * (1 << 40) + (field.used as u64) * (1 << 56)
+    match answer {
+        Ok(field) => (field.length as u64) * (1 << 40) + (field.used as u64) * (1 << 56),
+        Err(e) => e.number() as u64,
+    }
 }
 
 // Reads the length field at the head of some bytes: the length in bits 40 to 55, the bytes used in bits 56 to 63.
 pub fn length(bytes: &[u8]) -> u64
     ensures { result ≡ packed_length (length_told (length_read bytes.now)) }
 {
-    pack_length(lengths_read::told(lengths_read::read_length(bytes)))
+    pack_length(lengths_read::read_length(bytes))
 }
 
-fn pack_tree(answer: TreeAnswer) -> u64
+fn pack_tree(answer: Result<u16, Refusal>) -> u64
     ensures { result ≡ packed_tree answer }
 {
-    let value = answer.place as u64 + answer.count as u64;
-    answer.number as u64 + value * (1 << 40)
+    match answer {
+        Ok(count) => (count as u64) * (1 << 40),
+        Err(e) => e.number as u64 + (e.place as u64) * (1 << 40),
+    }
 }
 
 // Lists the objects of some bytes, four words each: tag, depth, address, length.
@@ -40,10 +45,13 @@ pub fn tree(bytes: &[u8], room: &mut [u16]) -> u64
     pack_tree(tree_list::list_tree(bytes, room))
 }
 
-fn pack_back(answer: BackAnswer) -> u64
+fn pack_back(answer: Result<u16, BackError>) -> u64
     ensures { result ≡ packed_back answer }
 {
-    answer.number as u64 + (answer.size as u64) * (1 << 40)
+    match answer {
+        Ok(size) => (size as u64) * (1 << 40),
+        Err(e) => e.number() as u64,
+    }
 }
 
 // Writes the bytes back that have this listing and these plain values.

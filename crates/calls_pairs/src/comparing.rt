@@ -29,18 +29,6 @@ fn compared(table: &[u8], first: &[u8], second: &[u8]) -> Differences
     differences::compare(wire_tables::edition_of(table), first, second)
 }
 
-// Fills a room of thirty words.
-fn put_words(room: &mut [u32], words: [u32; 30])
-    requires { length room.old ≡ 30 }
-    ensures { room.new ≡ words }
-{
-    let mut i: usize = 0;
-    while i < 30 {
-        room[i] = words[i];
-        i += 1;
-    }
-}
-
 // Lists the differences of two images into a room of thirty words; the value of the answer is how many there are.
 pub fn differences(table: &[u8], first: &[u8], second: &[u8], room: &mut [u32]) -> u64
     ensures value { result ≡ kvk_differences table.now first.now second.now room.old }
@@ -50,7 +38,6 @@ pub fn differences(table: &[u8], first: &[u8], second: &[u8], room: &mut [u32]) 
         return wire::pack(Refusal::new(20, 0, 0));
     }
     let found = compared(table, first, second);
-    let words = found.entries;
-    put_words(room, words);
+    room.copy_from_slice(&found.entries);
     wire::pack_value(found.refusal, found.count)
 }

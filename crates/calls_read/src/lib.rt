@@ -41,12 +41,10 @@ fn put_values(
     ensures value { result ≡ at + 464 }
 {
     let mut place = at;
-    let mut k = 0;
-    while k < 16 {
+    for k in 0..16 {
         let start = starts[k] as usize;
         let stop = start + lengths[k] as usize;
         place = put_value(room, place, &image[start..stop]);
-        k += 1;
     }
     place
 }

@@ -10,8 +10,9 @@ use lib.Dec.{leb, eqb}
 use borrow.Author.Tests.{eqb-true, le-leb, lt-leb, leb-true, leb-false}
 use Rattle.ground.proofs.Lists.{and_left, and_right}
 use Rattle.card.specs.declared.LengthField.TheVariants.{One, Two, Other}
-use Rattle.lengths.specs.declared.Length.TheVariants as L
-use Rattle.lengths.specs.Lengths.{length_field, length_read, length_told}
+use Rattle.std.specs.Prelude.{Err}
+use Rattle.lengths.specs.declared.FieldError.TheVariants as L
+use Rattle.lengths.specs.Lengths.{length_field, read, length_read, length_told}
 use Rattle.card.specs.Fields.{second_byte, length_at, field_told}
 use Rattle.card.specs.Frame.{field_wrong, wrong_by, field_of, start_of}
 
@@ -84,7 +85,7 @@ wrong_by_length (b ∷ v ∷ w ∷ r) h = go (leb b 127) (eqb b 0x81) refl (eqb 
   where
     go : (p q : Bool) → eqb b 0x81 ≡ q → (t k : Bool) → leb v 127 ≡ k → (j : Bool)
         → field_wrong (cond p (One b) (cond q (Two v) (Other b)))
-        ≡ wrong_by (length_told (cond p (L.Read b 1) (cond q (cond k L.Long (L.Read v 2)) (cond t (cond j L.Long (L.Read (v * 256 + w) 3)) L.Other)))) b
+        ≡ wrong_by (length_told (cond p (read b 1) (cond q (cond k (Err L.Long) (read v 2)) (cond t (cond j (Err L.Long) (read (v * 256 + w) 3)) (Err L.Other))))) b
     go true q e t k f j = refl
     go false true e t true f j = rw (lt-leb 128 v (omega (arith, leb-true v 127 f)), e)
     go false true e t false f j = rw (le-leb 128 v (leb-false v 127 f))

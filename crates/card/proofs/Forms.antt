@@ -7,10 +7,11 @@ use lib.Dec.{leb, eqb}
 use mathlib.Core.Path.{◌≡◌, refl, ap}
 use mathlib.Core.List.{List, [], ◌∷◌}
 use lib.ListN.{length, get_or}
+use Rattle.std.specs.Prelude.{Err}
+use Rattle.lengths.specs.declared.FieldError.TheVariants.{Long}
+use Rattle.lengths.specs.declared.FieldError.TheVariants as L
 use Rattle.lengths.specs.declared.ToldLength.{ToldLength}
-use Rattle.lengths.specs.declared.Length.TheVariants.{Read, Long}
-use Rattle.lengths.specs.declared.Length.TheVariants as L
-use Rattle.lengths.specs.Lengths.{behind81, behind82, length_read, length_told}
+use Rattle.lengths.specs.Lengths.{read, behind81, behind82, length_read, length_told}
 use Rattle.card.specs.declared.LengthField.{LengthField}
 use Rattle.card.specs.declared.LengthField.TheVariants.{One, Two, Other, Cut}
 use Rattle.card.specs.Fields.{second_byte, length_at, ToldField, field_told, unread, taken}
@@ -47,7 +48,7 @@ taken81 : (b : ℕ) (bs : List ℕ) → b ≡ 0x81 → taken (length_told (behin
 taken81 b [] e = rw e
 taken81 b (n ∷ bs) e = go (leb n 127)
   where
-    go : (p : Bool) → taken (length_told (cond p Long (Read n 2))) (b ∷ n ∷ bs) ≡ Two n
+    go : (p : Bool) → taken (length_told (cond p (Err Long) (read n 2))) (b ∷ n ∷ bs) ≡ Two n
     go true = rw e
     go false = refl
 
@@ -56,7 +57,7 @@ taken82 b [] e = rw e
 taken82 b (x ∷ []) e = rw e
 taken82 b (x ∷ y ∷ bs) e = go (eqb x 0)
   where
-    go : (p : Bool) → taken (length_told (cond p Long (Read (x * 256 + y) 3))) (b ∷ x ∷ y ∷ bs) ≡ Other b
+    go : (p : Bool) → taken (length_told (cond p (Err Long) (read (x * 256 + y) 3))) (b ∷ x ∷ y ∷ bs) ≡ Other b
     go true = rw e
     go false = rw e
 
@@ -66,7 +67,7 @@ by_taken [] = refl
 by_taken (b ∷ bs) = go (leb b 127) refl (eqb b 0x81) refl (eqb b 0x82) refl
   where
     go : (p : Bool) → leb b 127 ≡ p → (q : Bool) → eqb b 0x81 ≡ q → (t : Bool) → eqb b 0x82 ≡ t
-        → taken (length_told (cond p (Read b 1) (cond q (behind81 bs) (cond t (behind82 bs) L.Other)))) (b ∷ bs) ≡ cond p (One b) (cond q (second_byte bs) (Other b))
+        → taken (length_told (cond p (read b 1) (cond q (behind81 bs) (cond t (behind82 bs) (Err L.Other))))) (b ∷ bs) ≡ cond p (One b) (cond q (second_byte bs) (Other b))
     go true a q e t f = refl
     go false a true e t f = taken81 b bs (eqb-true b 0x81 e)
     go false a false e true f = taken82 b bs (eqb-true b 0x82 f)

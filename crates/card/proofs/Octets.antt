@@ -12,7 +12,7 @@ use Rattle.rules.specs.declared.Rule.TheVariants.{Digits, Text, Lead, Code, Birt
 use Rattle.edition.specs.declared.Row.{Row}
 use Rattle.edition.specs.declared.Edition.{Edition}
 use Rattle.edition.specs.declared.Formed.TheVariants.{Well}
-use Rattle.rules.specs.declared.Verdict.TheVariants.{Takes}
+use Rattle.std.specs.Prelude.{Ok}
 use Rattle.ground.specs.Lists.{among}
 use Rattle.rules.specs.Values.{between, is_digit, is_text, takes, judged}
 use Rattle.edition.specs.Rows.{tags, set_formed, by_rule, row_formed, formed_from}
@@ -119,7 +119,7 @@ not_raw Expiry x y h = refl
 not_raw Raw x y h = h
 not_raw NotD x y h = refl
 
-value_octets : (r : Row) (v : List ℕ) → row_formed false r ≡ true → judged r.rule v ≡ Takes → Octets v
+value_octets : (r : Row) (v : List ℕ) → row_formed false r ≡ true → judged r.rule v ≡ Ok tt → Octets v
 value_octets r v f t =
     let plain = not_raw r.rule _ _ (and_right (set_formed r.lengths) _ f) in
     octets_each v (λ k h. plain_below r.rule (get_or v k 0) plain (leading_before (takes r.rule) 0 v k (omega (arith, (taken_means r.rule v t).0))))

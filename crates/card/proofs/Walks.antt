@@ -10,12 +10,12 @@ use lib.Seq.{take-append_seam, drop-append_seam, length-take-le}
 use lib.Dec.{leb, eqb}
 use borrow.Author.Tests.{eqb-true, eq-eqb, ne_eqb, le-leb, leb-true, not-true}
 use Rattle.edition.specs.declared.Row.{Row}
-use Rattle.rules.specs.declared.Verdict.{Verdict}
-use Rattle.rules.specs.declared.Verdict.TheVariants.{Takes, Outside, Breaks}
+use Rattle.std.specs.Prelude.{Ok, Err}
+use Rattle.rules.specs.declared.Fault.TheVariants.{Outside, Breaks}
 use Rattle.ground.specs.Lists.{among, distinct}
 use Rattle.edition.specs.Sets.{permitted}
 use Rattle.edition.proofs.Sets.{never_0}
-use Rattle.rules.specs.Values.{judged}
+use Rattle.rules.specs.Values.{Verdict, judged}
 use Rattle.rules.proofs.Verdicts.{nine_means}
 use Rattle.ground.proofs.Lists.{true_false, and_left, and_right}
 use Rattle.card.specs.declared.Refusal.{Refusal}
@@ -96,9 +96,9 @@ present_is k r ts at b v rest w e = rw look_object (go (permitted r.row.lengths 
         → onward k at (object r.tag (b ∷ v) ++ rest) (cond q (weighed r (at + 2) (b ∷ v) rest d) (wrong (refuse_length (at + 1) r.tag r.row.lengths)))
         ≡ unless_met r at (cond q (of_verdict d) length-out) (push (b ∷ v) w)
     go false d = refl
-    go true Takes = rw (next, e)
-    go true (Outside i) = refl
-    go true Breaks = refl
+    go true (Ok u) = rw (next, e)
+    go true (Err (Outside i)) = refl
+    go true (Err Breaks) = refl
 
 distinct_head : (t : ℕ) (ts : List ℕ) → distinct (t ∷ ts) ≡ true → among t ts ≡ false
 unfolding distinct
@@ -136,11 +136,11 @@ met_fault r [] = go r.required
     go false e = refl
 met_fault r (b ∷ v) = go (permitted r.lengths (length (b ∷ v))) (judged r.rule (b ∷ v))
   where
-    go : (q : Bool) (d : Verdict) → cond q (of_verdict d) length-out ≡ met → (q ≡ true) × (d ≡ Takes)
+    go : (q : Bool) (d : Verdict) → cond q (of_verdict d) length-out ≡ met → (q ≡ true) × (d ≡ Ok tt)
     go false d e = (cc, cc)
-    go true Takes e = (refl, refl)
-    go true (Outside i) e = (refl, cc)
-    go true Breaks e = (refl, cc)
+    go true (Ok u) e = (refl, refl)
+    go true (Err (Outside i)) e = (refl, cc)
+    go true (Err Breaks) e = (refl, cc)
 
 pub appraise_met : {rs : List Entry} {vs : List (List ℕ)} (at : ℕ) → AllMet rs vs → appraise rs at vs ≡ through vs []
 unfolding appraise unless_met push
@@ -154,7 +154,7 @@ complete rs vs at d h = walk_body rs vs at d ∙ appraise_met at h
 -- ---- what a row that finds its object has before it
 pub data View (r : Entry) (bs : List ℕ) : Seen → Type 0 where
   left_out : r.row.required ≡ false → View r bs absent
-  found : {v rest : List ℕ} → bs ≡ r.tag ∷ length v ∷ (v ++ rest) → permitted r.row.lengths (length v) ≡ true → judged r.row.rule v ≡ Takes → View r bs (there v rest)
+  found : {v rest : List ℕ} → bs ≡ r.tag ∷ length v ∷ (v ++ rest) → permitted r.row.lengths (length v) ≡ true → judged r.row.rule v ≡ Ok tt → View r bs (there v rest)
   amiss : {x : Refusal} → View r bs (wrong x)
 
 view_passed : (r : Entry) (bs : List ℕ) (at : ℕ) (f : Bool) → View r bs (passed r at f)
@@ -174,11 +174,11 @@ view_object r at (n ∷ bs) = go (permitted r.row.lengths n) refl (leb n (length
         → View r (r.tag ∷ n ∷ bs) (cond q (cond m (weighed r (at + 2) (take n bs) (drop n bs) d) (wrong (refuse 8 at r.tag))) (wrong (refuse_length (at + 1) r.tag r.row.lengths)))
     go false p m l d e = amiss
     go true p false l d e = amiss
-    go true p true l Takes e =
+    go true p true l (Ok u) e =
         let same : length (take n bs) ≡ n = length-take-le n bs (leb-true n (length bs) l) in
         found {v = take n bs} {rest = drop n bs} (rw (same, take-append-drop)) (rw same p) e
-    go true p true l (Outside i) e = amiss
-    go true p true l Breaks e = amiss
+    go true p true l (Err (Outside i)) e = amiss
+    go true p true l (Err Breaks) e = amiss
 
 pub view : (r : Entry) (ts : List ℕ) (at : ℕ) (bs : List ℕ) → View r bs (look r ts at bs)
 unfolding look
@@ -246,12 +246,12 @@ module _ (r : Entry) (rs : List Entry) (at : ℕ) (i : In r rs) where
   weighed-stops : (n : ℕ) (bs : List ℕ) (d : Verdict) → judged r.row.rule (take n bs) ≡ d → n ≤ length bs
       → SeenStops rs at (suc (suc (length bs))) (weighed r (at + 2) (take n bs) (drop n bs) d)
   unfolding weighed among
-  weighed-stops n bs Takes e h = rw (length-take-le n bs h, length-drop) (omega arith)
-  weighed-stops n bs (Outside j) e h =
+  weighed-stops n bs (Ok u) e h = rw (length-take-le n bs h, length-drop) (omega arith)
+  weighed-stops n bs (Err (Outside j)) e h =
       let f = (nine_means r.row.rule (take n bs) j e).inside in
       let t = length-take-le n bs h in
       at_row 9 (at + 2 + j) i refl (omega arith)
-  weighed-stops n bs Breaks e h = at_row 10 (at + 2) i refl (omega arith)
+  weighed-stops n bs (Err Breaks) e h = at_row 10 (at + 2) i refl (omega arith)
 
   object-stops : (bs : List ℕ) → SeenStops rs at (suc (length bs)) (object_at r at bs)
   unfolding object_at among

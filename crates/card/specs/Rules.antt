@@ -1,13 +1,12 @@
 -- What a content must be, and when an image meets every rule.
-use Rattle.std.specs.Prelude.{ℕ, ◌+◌, ◌≤◌, ◌≡◌, Bool, true, false, cond, ◌&&◌, ◌||◌, List, [], ◌∷◌, map, leb, eqb, length, drop, get_or}
+use Rattle.std.specs.Prelude.{ℕ, ◌+◌, ◌≤◌, ◌≡◌, Bool, true, false, cond, ◌&&◌, ◌||◌, List, [], ◌∷◌, map, leb, eqb, length, drop, get_or, Ok, Err}
 use Rattle.edition.specs.declared.Row.{Row}
 use Rattle.edition.specs.declared.Edition.{Edition}
 use Rattle.edition.specs.declared.Formed.TheVariants.{Well}
-use Rattle.rules.specs.declared.Verdict.{Verdict}
-use Rattle.rules.specs.declared.Verdict.TheVariants.{Takes, Outside, Breaks}
+use Rattle.rules.specs.declared.Fault.TheVariants.{Outside, Breaks}
 use Rattle.ground.specs.Lists.{leading}
 use Rattle.edition.specs.Sets.{permitted}
-use Rattle.rules.specs.Values.{judged}
+use Rattle.rules.specs.Values.{Verdict, judged}
 use Rattle.edition.specs.Rows.{formed_of}
 use Rattle.card.specs.Content.{Content}
 use Rattle.card.specs.Layout.{object_tags, objects_of, template_length, layout}
@@ -32,7 +31,7 @@ object_rows e = entries object_tags e.rows
 -- a row is met if its object is absent and not required, or has a length of the set and a value that the rule takes
 abbrev pub RowMet : Row → List ℕ → Type 0
 RowMet r [] = r.required ≡ false
-RowMet r (b ∷ v) = (permitted r.lengths (length (b ∷ v)) ≡ true) × (judged r.rule (b ∷ v) ≡ Takes)
+RowMet r (b ∷ v) = (permitted r.lengths (length (b ∷ v)) ≡ true) × (judged r.rule (b ∷ v) ≡ Ok tt)
 
 pub data AllMet : List Entry → List (List ℕ) → Type 0 where
   none_left : AllMet [] []
@@ -47,9 +46,9 @@ pub data Fault : Type 0 where
   value_out : Fault
 
 abbrev pub of_verdict : Verdict → Fault
-of_verdict Takes = met
-of_verdict (Outside i) = byte-out i
-of_verdict Breaks = value_out
+of_verdict (Ok u) = met
+of_verdict (Err (Outside i)) = byte-out i
+of_verdict (Err Breaks) = value_out
 
 unfoldable pub fault : Row → List ℕ → Fault
 fault r [] = cond r.required missing met

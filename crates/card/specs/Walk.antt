@@ -1,10 +1,9 @@
 -- The objects of a template: the rows are walked in card order, over the bytes that are left.
-use Rattle.std.specs.Prelude.{ℕ, ◌+◌, Bool, true, cond, List, [], ◌∷◌, map, leb, eqb, length, take, drop}
-use Rattle.rules.specs.declared.Verdict.{Verdict}
-use Rattle.rules.specs.declared.Verdict.TheVariants.{Takes, Outside, Breaks}
+use Rattle.std.specs.Prelude.{ℕ, ◌+◌, Bool, true, cond, List, [], ◌∷◌, map, leb, eqb, length, take, drop, Ok, Err}
+use Rattle.rules.specs.declared.Fault.TheVariants.{Outside, Breaks}
 use Rattle.ground.specs.Lists.{among}
 use Rattle.edition.specs.Sets.{permitted}
-use Rattle.rules.specs.Values.{judged}
+use Rattle.rules.specs.Values.{Verdict, judged}
 use Rattle.card.specs.declared.Refusal.{Refusal}
 use Rattle.card.specs.Refusals.{refuse, refuse_length, none}
 use Rattle.card.specs.Rules.{Entry, Fault, met, missing, length-out, byte-out, value_out}
@@ -17,9 +16,9 @@ pub data Seen : Type 0 where
 
 -- 9 at the first byte outside the characters, 10 at the first value byte
 unfoldable pub weighed : Entry → ℕ → List ℕ → List ℕ → Verdict → Seen
-weighed r at v rest Takes = there v rest
-weighed r at v rest (Outside i) = wrong (refuse 9 (at + i) r.tag)
-weighed r at v rest Breaks = wrong (refuse 10 at r.tag)
+weighed r at v rest (Ok u) = there v rest
+weighed r at v rest (Err (Outside i)) = wrong (refuse 9 (at + i) r.tag)
+weighed r at v rest (Err Breaks) = wrong (refuse 10 at r.tag)
 
 -- behind the tag at `at`: 8 for the length byte, 7, 8 for the value, 9, 10
 unfoldable pub object_at : Entry → ℕ → List ℕ → Seen

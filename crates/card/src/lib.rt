@@ -30,6 +30,7 @@ pub struct Record {
 }
 
 // Shortest and longest are the ends of the row's length set with number 7, else 0. All 0: no refusal.
+// Number 0 says none, and no Option does: `packed` in the specs of wire, the answer of each call from C, is made of these five numbers.
 #[derive(Clone, Copy)]
 pub struct Refusal {
     pub number: u8,
@@ -40,6 +41,7 @@ pub struct Refusal {
 }
 
 // What stands where a length is due. The range of the length is the caller's to judge.
+// No Option and no Result: the byte counts in three of the four forms, also where the form is none that a card has.
 #[derive(Clone, Copy)]
 pub enum LengthField {
     // One byte, up to 127.
@@ -53,6 +55,7 @@ pub enum LengthField {
 }
 
 // What a reading gives back.
+// The refusal stands beside the content, and no Result does: `read_empty` of `demands`, and the call from C, hand out the empty record with a refusal.
 #[derive(Clone, Copy)]
 pub struct Reading {
     pub refusal: Refusal,
@@ -61,6 +64,7 @@ pub struct Reading {
 
 // Where the sixteen values stand in an image: the address of each value's first byte, and its length; 0 and 0 where it is
 // absent, and where the image is refused.
+// The refusal stands beside the places, and no Result does: `kvk_places_room`, the room of the call from C, has these zeros with a refusal.
 #[derive(Clone, Copy)]
 pub struct Places {
     pub refusal: Refusal,

@@ -28,12 +28,9 @@ fn fold_word(word: u32) -> u8
 fn fold_words(span: &[u8]) -> u8
     ensures { result ≡ xor_all (take (length span.now / 4 * 4) span.now) }
 {
-    let end = span.len() / 4 * 4;
     let mut folded = 0u32;
-    let mut i = 0;
-    while i < end {
-        folded = folded ^ word_of(span[i], span[i + 1], span[i + 2], span[i + 3]);
-        i += 4;
+    for word in span.chunks_exact(4) {
+        folded = folded ^ word_of(word[0], word[1], word[2], word[3]);
     }
     fold_word(folded)
 }
@@ -43,10 +40,9 @@ pub fn checksum(span: &[u8]) -> u8
     ensures { result ≡ xor_all span.now }
 {
     let mut sum = fold_words(span);
-    let mut i = span.len() / 4 * 4;
-    while i < span.len() {
-        sum = sum ^ span[i];
-        i += 1;
+    let whole = span.len() / 4 * 4;
+    for byte in &span[whole..] {
+        sum = sum ^ *byte;
     }
     sum
 }

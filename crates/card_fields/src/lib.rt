@@ -29,7 +29,9 @@ fn form_unread(bytes: &[u8]) -> LengthField
 pub fn read_length(bytes: &[u8]) -> LengthField
     ensures { field_told result ≡ field_told (length_at bytes.now) }
 {
-    let field = lengths_read::told(lengths_read::read_length(bytes));
+    let Ok(field) = lengths_read::read_length(bytes) else {
+        return form_unread(bytes);
+    };
     if field.used == 1 {
         return LengthField::One(field.length as u8);
     }

@@ -50,14 +50,12 @@ fn first_present(lengths: [u8; 16], k: usize) -> usize
     requires { k ≤ 16 }
     ensures { result ≡ first_present k lengths }
 {
-    let mut i = k;
-    while i < 16 {
+    for i in k..16 {
         if lengths[i] != 0 {
             return i;
         }
-        i += 1;
     }
-    i
+    16
 }
 
 // Where the tag of a value stands; 0 where there is no room for it.

@@ -1,5 +1,5 @@
 -- The record that a text makes. Where no line says otherwise, address 0 is '92', the free bytes and the last byte are '00', and an object is absent.
-use Rattle.std.specs.Prelude.{ℕ, zero, suc, cond, List, [], ◌∷◌, ◌++◌, eqb, length, take, replicate}
+use Rattle.std.specs.Prelude.{ℕ, zero, suc, cond, List, [], ◌∷◌, ◌++◌, is_some, length, take, replicate}
 use Rattle.card.specs.declared.Object.{Object}
 use Rattle.card.specs.declared.Record.{Record}
 use Rattle.card_text.specs.Entries.{line_of, value_of}
@@ -17,7 +17,7 @@ object_said value = record { length = length (coded value); bytes = take 28 (cod
 
 -- the byte that a line says in hex digits, or another where there is no such line
 unfoldable pub byte_or : List ℕ → ℕ → ℕ → ℕ
-byte_or text key other = cond (eqb (line_of key text) 0) other (byte_at (value_of key text) 0)
+byte_or text key other = cond (is_some (line_of key text)) (byte_at (value_of key text) 0) other
 
 unfoldable pub free_said : List ℕ → List ℕ
 free_said value = listed 12 (byte_at value)

@@ -3,11 +3,21 @@
 // A text with a fault makes a record all the same, and no line can set the checksum.
 #![tactic(auto)]
 
-// The first line that is wrong, counted from 1, what it speaks of, and why: 1 no name, 2 an earlier line speaks of it, 3 a letter that DIN 66003
-// lacks, of which `place` is the first byte within the value, 4 not the hex digits that are due, 5 the checksum, which is computed. Number 0: nothing.
+// Why a line is wrong: no object has its name, an earlier line speaks of the same, a letter that DIN 66003 lacks, not the hex digits that are due, the
+// checksum, which is computed.
+#[derive(Clone, Copy)]
+pub enum Wrong {
+    Name = 1,
+    Again = 2,
+    Letter = 3,
+    Digits = 4,
+    Checksum = 5,
+}
+
+// A line that is wrong, counted from 1, what it speaks of, and why; `place` is the first byte within its value of a letter that DIN 66003 lacks.
 #[derive(Clone, Copy)]
 pub struct Fault {
-    pub number: u8,
+    pub wrong: Wrong,
     pub line: usize,
     pub key: usize,
     pub place: usize,

@@ -7,12 +7,10 @@ use std::io::Write;
 
 // Writes each byte as two capital hex digits.
 pub fn write_hex<W: Write>(output: &mut W, bytes: &[u8]) -> io::Result<()> {
-    let mut i = 0;
-    while i < bytes.len() {
+    for byte in bytes {
         let mut digits = [0u8; 2];
-        ground_digits::put_hex(&mut digits, 0, bytes[i]);
+        ground_digits::put_hex(&mut digits, 0, *byte);
         output.write_all(&digits)?;
-        i += 1;
     }
     Ok(())
 }
@@ -46,15 +44,7 @@ pub fn write_room<W: Write>(output: &mut W, room: &[u8], fill: u8) -> io::Result
 fn count_other(bytes: &[u8], byte: u8) -> u64
     ensures { result ≤ length bytes.now }
 {
-    let mut count: u64 = 0;
-    let mut i = 0;
-    while i < bytes.len() {
-        if bytes[i] != byte {
-            count += 1;
-        }
-        i += 1;
-    }
-    count
+    bytes.iter().filter(|other| **other != byte).count() as u64
 }
 
 // Writes how many bytes are another one.
@@ -97,12 +87,9 @@ fn write_slots<W: Write>(output: &mut W, content: &[u8]) -> io::Result<()>
     output.write_all(b" ")?;
     write_hex(output, &content[..14])?;
     let mut behind: u64 = 0;
-    let mut k: usize = 0;
-    while k < 16 {
+    for k in 0..16 {
         let at = 14 + k * 29;
-        let end = at + 29;
-        behind += write_slot(output, &content[at..end])?;
-        k += 1;
+        behind += write_slot(output, &content[at..at + 29])?;
     }
     write_number(output, behind)?;
     write_number(output, ground_parts::byte_at(content, 478) as u64)

@@ -17,18 +17,11 @@ pub fn get<R: Read>(input: &mut R, room: &mut [u8]) -> io::Result<bool> {
 
 // Fills all of a room with one byte.
 pub fn fill(room: &mut [u8], byte: u8) {
-    ground_room::fill(room, 0, room.len(), byte);
+    room.fill(byte);
 }
 
 pub fn is_filled(room: &[u8], byte: u8) -> bool {
-    let mut i = 0;
-    while i < room.len() {
-        if room[i] != byte {
-            return false;
-        }
-        i += 1;
-    }
-    true
+    room.iter().all(|held| *held == byte)
 }
 
 // The number that two bytes write, high byte first.
@@ -118,14 +111,10 @@ fn get_slots<R: Read>(input: &mut R, content: &mut [u8]) -> io::Result<bool>
     if !get(input, &mut content[..14])? {
         return Ok(false);
     }
-    let mut k: usize = 0;
-    while k < 16 {
-        let at = 14 + k * 29;
-        let end = at + 29;
-        if !get_slot(input, &mut content[at..end])? {
+    for slot in content[14..478].chunks_exact_mut(29) {
+        if !get_slot(input, slot)? {
             return Ok(false);
         }
-        k += 1;
     }
     get(input, &mut content[478..])
 }

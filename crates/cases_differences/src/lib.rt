@@ -31,13 +31,8 @@ fn write_entry<W: Write>(output: &mut W, entry: u32) -> io::Result<()> {
 // Writes how many entries there are, and each of them; the first 0 ends them.
 fn write_entries<W: Write>(output: &mut W, count: u64, entries: &[u32]) -> io::Result<()> {
     cases::write_number(output, count)?;
-    let mut i = 0;
-    while i < entries.len() {
-        if entries[i] == 0 {
-            return Ok(());
-        }
-        write_entry(output, entries[i])?;
-        i += 1;
+    for entry in entries.iter().take_while(|entry| **entry != 0) {
+        write_entry(output, *entry)?;
     }
     Ok(())
 }

@@ -47,8 +47,7 @@ fn check<W: Write>(
 
 // Fills the head of a room with so many words from the input, and answers whether they were all there.
 fn get_words<R: Read>(input: &mut R, room: &mut [u32], count: usize) -> io::Result<bool> {
-    let mut i: usize = 0;
-    while i < count {
+    for i in 0..count {
         let mut bytes = [0u8; 4];
         if !cases::get(input, &mut bytes)? {
             return Ok(false);
@@ -57,7 +56,6 @@ fn get_words<R: Read>(input: &mut R, room: &mut [u32], count: usize) -> io::Resu
             return Ok(false);
         }
         room[i] = cases::word_of(&bytes);
-        i += 1;
     }
     Ok(true)
 }

@@ -1,6 +1,4 @@
 // Digests of what calls answer and leave in their rooms.
-ghost use Rattle.std.specs.Prelude.{◌<◌, ◌≤◌};
-
 const FACTOR: u64 = 16777619;
 
 const PRIME: u64 = 549755813881;
@@ -10,22 +8,11 @@ fn fold(digest: u64, number: u64) -> u64 {
     (digest % PRIME * FACTOR + number % PRIME) % PRIME
 }
 
-// Where the next word begins, or the end.
-fn behind_word(i: usize, size: usize) -> usize
-    requires { i < size }
-    ensures lower_bound { i < result }
-    ensures upper_bound { result ≤ size }
-{
-    if size - i < 4 { size } else { i + 4 }
-}
-
 // An answer, then bytes in words of four.
 pub(crate) fn fold_call(digest: u64, answer: u64, room: &[u8]) -> u64 {
     let mut folded = fold(digest, answer);
-    let mut i = 0;
-    while i < room.len() {
-        folded = fold(folded, cases::word_of(&room[i..]) as u64);
-        i = behind_word(i, room.len());
+    for word in room.chunks(4) {
+        folded = fold(folded, cases::word_of(word) as u64);
     }
     folded
 }

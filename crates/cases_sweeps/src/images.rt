@@ -5,13 +5,11 @@ use std::io::{Read, Write};
 
 // The exclusive or of the bytes from address 30 to before the place.
 fn sum_before(image: &[u8], place: usize) -> u8 {
-    let mut sum: u8 = 0;
-    let mut i: usize = 30;
-    while i < place {
-        sum ^= ground_parts::byte_at(image, i);
-        i += 1;
-    }
-    sum
+    image
+        .iter()
+        .take(place)
+        .skip(30)
+        .fold(0, |sum, byte| sum ^ *byte)
 }
 
 // Sets the checksum right, if there is one.
@@ -34,11 +32,9 @@ fn put_value(image: &mut [u8], address: usize, value: u8, checksum_at: usize) {
 fn sweep_address(table: &[u8], image: &mut [u8], address: usize, checksum_at: usize) -> u64 {
     let before = ground_parts::byte_at(image, address);
     let mut digest: u64 = 1;
-    let mut value: usize = 0;
-    while value < 256 {
-        put_value(image, address, value as u8, checksum_at);
+    for value in 0..=255 {
+        put_value(image, address, value, checksum_at);
         digest = fold_reading(digest, table, image);
-        value += 1;
     }
     ground_room::put_byte(image, address, before);
     mend(image, checksum_at);
@@ -54,10 +50,8 @@ fn write_sweep<W: Write>(
     until: usize,
     checksum_at: usize,
 ) -> io::Result<()> {
-    let mut address = from;
-    while address < until && address < image.len() {
+    for address in from..until.min(image.len()) {
         cases::write_number(output, sweep_address(table, image, address, checksum_at))?;
-        address += 1;
     }
     Ok(())
 }
@@ -71,11 +65,12 @@ fn write_pair_sweep<W: Write>(
     then: usize,
     checksum_at: usize,
 ) -> io::Result<()> {
-    let mut value: usize = 0;
-    while value < 256 && first < image.len() && then < image.len() {
-        ground_room::put_byte(image, first, value as u8);
+    if first >= image.len() || then >= image.len() {
+        return Ok(());
+    }
+    for value in 0..=255 {
+        ground_room::put_byte(image, first, value);
         cases::write_number(output, sweep_address(table, image, then, checksum_at))?;
-        value += 1;
     }
     Ok(())
 }

@@ -15,11 +15,9 @@ fn fold_writing(digest: u64, table: &[u8], record: &[u8]) -> u64 {
 fn sweep_index(table: &[u8], record: &mut [u8], index: usize) -> u64 {
     let before = ground_parts::byte_at(record, index);
     let mut digest: u64 = 1;
-    let mut value: usize = 0;
-    while value < 256 {
-        ground_room::put_byte(record, index, value as u8);
+    for value in 0..=255 {
+        ground_room::put_byte(record, index, value);
         digest = fold_writing(digest, table, record);
-        value += 1;
     }
     ground_room::put_byte(record, index, before);
     digest
@@ -29,11 +27,9 @@ fn sweep_index(table: &[u8], record: &mut [u8], index: usize) -> u64 {
 fn sweep_table(table: &mut [u8], index: usize, image: &[u8]) -> u64 {
     let before = ground_parts::byte_at(table, index);
     let mut digest: u64 = 1;
-    let mut value: usize = 0;
-    while value < 256 {
-        ground_room::put_byte(table, index, value as u8);
+    for value in 0..=255 {
+        ground_room::put_byte(table, index, value);
         digest = fold_reading(digest, table, image);
-        value += 1;
     }
     ground_room::put_byte(table, index, before);
     digest
@@ -50,10 +46,8 @@ fn write_record_sweep<W: Write>(
     let mut image = [0u8; 256];
     output.write_all(b"O")?;
     cases::write_answer(output, kvk::kvk_write(table, record, &mut image))?;
-    let mut index = from;
-    while index < until && index < record.len() {
+    for index in from..until.min(record.len()) {
         cases::write_number(output, sweep_index(table, record, index))?;
-        index += 1;
     }
     output.write_all(b"\n")
 }
@@ -62,10 +56,8 @@ fn write_record_sweep<W: Write>(
 fn write_table_sweep<W: Write>(output: &mut W, table: &mut [u8], image: &[u8]) -> io::Result<()> {
     write_reading(output, b'X', table, image)?;
     let size = table.len();
-    let mut index: usize = 0;
-    while index < size {
+    for index in 0..size {
         cases::write_number(output, sweep_table(table, index, image))?;
-        index += 1;
     }
     cases::write_number(output, fold_call(1, 0, table))?;
     output.write_all(b"\n")

@@ -12,13 +12,8 @@ const LONGEST: usize = 4200;
 
 // Writes each word as four capital hex digits.
 fn write_words<W: Write>(output: &mut W, words: &[u16]) -> io::Result<()> {
-    let mut i = 0;
-    while i < words.len() {
-        cases::write_hex(
-            output,
-            &[(words[i] / 256 % 256) as u8, (words[i] % 256) as u8],
-        )?;
-        i += 1;
+    for word in words {
+        cases::write_hex(output, &[(*word / 256) as u8, (*word % 256) as u8])?;
     }
     Ok(())
 }
@@ -27,12 +22,10 @@ fn count_other_words(words: &[u16], word: u16) -> u64
     ensures { result ≤ length words.now }
 {
     let mut count: u64 = 0;
-    let mut i = 0;
-    while i < words.len() {
-        if words[i] != word {
+    for other in words {
+        if *other != word {
             count += 1;
         }
-        i += 1;
     }
     count
 }
@@ -115,11 +108,9 @@ pub fn run_tree<R: Read, W: Write>(input: &mut R, output: &mut W) -> io::Result<
 // The words that bytes write, high byte first.
 fn words_of(bytes: &[u8]) -> [u16; 2100] {
     let mut words = [0u16; 2100];
-    let mut i: usize = 0;
-    while i < 2100 {
-        words[i] = ground_parts::byte_at(bytes, i * 2) as u16 * 256
+    for (i, word) in words.iter_mut().enumerate() {
+        *word = ground_parts::byte_at(bytes, i * 2) as u16 * 256
             + ground_parts::byte_at(bytes, i * 2 + 1) as u16;
-        i += 1;
     }
     words
 }

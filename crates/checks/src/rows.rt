@@ -12,7 +12,7 @@ ghost use Rattle.wire_records.specs.Records.{object_from, lent_record};
 
 use card::Refusal;
 use edition::{Edition, Row};
-use rules::Verdict;
+use rules::Fault;
 
 // 9 and 10: what the row's rule says of a value.
 fn check_value(row: Row, tag: u8, value: &[u8], kinds: &[u8]) -> Refusal
@@ -21,9 +21,9 @@ fn check_value(row: Row, tag: u8, value: &[u8], kinds: &[u8]) -> Refusal
 {
     let rule = row.rule;
     match rules_kinds::judge_by(kinds, rule, value) {
-        Verdict::Takes => Refusal::NONE,
-        Verdict::Outside(index) => Refusal::new(9, index, tag),
-        Verdict::Breaks => Refusal::new(10, 0, tag),
+        Ok(()) => Refusal::NONE,
+        Err(Fault::Outside(index)) => Refusal::new(9, index, tag),
+        Err(Fault::Breaks) => Refusal::new(10, 0, tag),
     }
 }
 
@@ -53,8 +53,7 @@ pub(crate) fn check_rows(edition: Edition, bytes: &[u8], kinds: &[u8]) -> Refusa
     requires { (length bytes.now ≡ 479) × (formed_of edition ≡ Well) × (kinds.now ≡ kind_table) }
     ensures { result ≡ rows_refusal (object_rows edition) (content_of (lent_record bytes.now)).values }
 {
-    let mut i: usize = 0;
-    while i < 16 {
+    for i in 0..16 {
         let row = edition.rows[i];
         let at = 14 + i * 29;
         let end = at + 29;
@@ -62,7 +61,6 @@ pub(crate) fn check_rows(edition: Edition, bytes: &[u8], kinds: &[u8]) -> Refusa
         if refusal.number != 0 {
             return refusal;
         }
-        i += 1;
     }
     Refusal::NONE
 }

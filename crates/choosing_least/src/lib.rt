@@ -28,14 +28,12 @@ pub fn choose(long: bool, names: bool, a: Row, b: Row, c: Row) -> Three
 {
     let mut best: usize = 24388;
     let mut least = weight_of(long, names, a, b, c, three_of(best));
-    let mut code: usize = 0;
-    while code < 24389 {
+    for code in 0..24389 {
         let weight = weight_of(long, names, a, b, c, three_of(code));
         if weight < least {
             least = weight;
             best = code;
         }
-        code += 1;
     }
     three_of(best)
 }

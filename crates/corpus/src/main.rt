@@ -99,14 +99,15 @@ fn run_case<R: Read, W: Write>(input: &mut R, output: &mut W) -> io::Result<bool
     Ok(is_whole)
 }
 
-// Nothing says that the input ends, so the loop counts its turns down, from a number that no run uses up.
+// Nothing says that the input ends, so the loop counts its turns, up to a number that no run reaches.
 fn main(rt: HostRuntime) -> io::Result<()> {
     let alloc = rt.alloc();
     let mut input = BufReader::new(alloc, rt.stdin())?;
     let mut output = BufWriter::new(alloc, rt.stdout())?;
-    let mut turns = u64::MAX;
-    while turns > 0 && run_case(&mut input, &mut output)? {
-        turns -= 1;
+    for _ in 0..u64::MAX {
+        if !run_case(&mut input, &mut output)? {
+            break;
+        }
     }
     output.flush()
 }

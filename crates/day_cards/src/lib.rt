@@ -11,6 +11,7 @@ use card::Object;
 use edition::Edition;
 
 // Whether an image is accepted, and its entry.
+// It stays a flag with an entry, and is no Option: what card_at ensures tells the entry of a refused image too.
 #[derive(Clone, Copy)]
 pub struct Card {
     pub accepted: bool,
@@ -33,10 +34,8 @@ pub fn entry_of(number: Object, position: u16) -> [u8; 14]
     ensures { result ≡ entry (value_of number) position }
 {
     let mut bytes = [0u8; 14];
-    let mut i: usize = 0;
-    while i < 12 {
+    for i in 0..12 {
         bytes[i] = padded_at(number, i);
-        i += 1;
     }
     bytes[12] = (position / 256) as u8;
     bytes[13] = (position % 256) as u8;

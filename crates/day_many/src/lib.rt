@@ -16,15 +16,13 @@ fn check_cards(images: &[u8], count: usize) -> Refusal
     requires { count * 256 ≤ length images.now }
     ensures { result ≡ cards_refusal 0 (pieces 256 count images.now) }
 {
-    let mut k: usize = 0;
-    while k < count {
+    for k in 0..count {
         let at = k * 256;
         let end = at + 256;
         let card = day_cards::card_at(&images[at..end], 0);
         if !card.accepted {
             return Refusal::new(41, k, 0);
         }
-        k += 1;
     }
     Refusal::none()
 }

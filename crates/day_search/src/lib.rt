@@ -4,14 +4,16 @@
 #![tactic(auto)]
 
 ghost use Rattle.std.specs.Prelude.{◌≡◌, ◌/◌, ◌≤◌, ◌<◌, length};
+ghost use Rattle.std.specs.List.{list_all};
+ghost use Rattle.rules.specs.Values.{is_digit};
 ghost use Rattle.day.specs.Cards.{entry};
 ghost use Rattle.day.specs.Index.{halved, told_at};
 ghost use Rattle.day.specs.Calls.{number_formed, entries_in, position_in};
 
-fn wide(byte: u8) -> usize
-    ensures { (result ≡ byte) × (result < 256) }
+fn are_digits(bytes: &[u8]) -> bool
+    ensures { result ≡ list_all is_digit bytes.now }
 {
-    byte as usize
+    bytes.iter().all(|b| b.is_ascii_digit())
 }
 
 // Whether some bytes are 6 to 12 digits.
@@ -24,14 +26,7 @@ fn is_number(bytes: &[u8]) -> bool
     if bytes.len() > 12 {
         return false;
     }
-    let mut i = 0;
-    while i < bytes.len() {
-        if (bytes[i] < 0x30) | (bytes[i] > 0x39) {
-            return false;
-        }
-        i += 1;
-    }
-    true
+    are_digits(bytes)
 }
 
 // The entry of a number at position 0, before which no card of that number comes.
@@ -79,7 +74,7 @@ fn told_at(index: &[u8], key: &[u8], k: usize) -> usize
     if !ground_parts::is_same(&index[at..end], &key[..12]) {
         return count;
     }
-    wide(index[end]) * 256 + wide(index[end + 1])
+    usize::from(index[end]) * 256 + usize::from(index[end + 1])
 }
 
 // The position in the first entry that has this number, or the count where none has.

@@ -7,14 +7,6 @@ ghost use Rattle.std.specs.Prelude.{◌≡◌, ◌++◌, ◌+◌, ◌*◌, ◌�
 ghost use Rattle.std.proofs.lemmas.List.Edits.{sets};
 ghost use Rattle.day.specs.Files.{trailer, size_of, fits, closed};
 
-// Copies all of `source` into the room from `at` on.
-fn copy(room: &mut [u8], at: usize, source: &[u8])
-    requires { at + length source.now ≤ length room.old }
-    ensures { room.new ≡ sets room.old at source.now }
-{
-    ground_room::put(room, at, source);
-}
-
 // The trailer of so many images and their index.
 fn trailer_of(count: usize, index: &[u8]) -> [u8; 8]
     requires { count ≤ 200 }
@@ -58,9 +50,9 @@ fn seal(room: &mut [u8], count: usize, index: &[u8])
     requires { (count ≤ 200) × (length index.now ≡ count * 14) × (size_of count ≤ length room.old) }
     ensures { room.new ≡ sets room.old (count * 256) (index.now ++ trailer count index.now) }
 {
-    copy(room, count * 256, index);
+    ground_room::put(room, count * 256, index);
     let trailer = trailer_of(count, index);
-    copy(room, count * 270, &trailer);
+    ground_room::put(room, count * 270, &trailer);
 }
 
 // Closes a file of so many images with their index and its trailer.

@@ -13,10 +13,10 @@ use Rattle.edition.specs.declared.Row.{Row}
 use Rattle.edition.specs.declared.Edition.{Edition}
 use Rattle.edition.specs.declared.Formed.{Formed}
 use Rattle.edition.specs.declared.Formed.TheVariants.{Well, Bad, Unnumbered}
-use Rattle.rules.specs.declared.Verdict.{Verdict}
-use Rattle.rules.specs.declared.Verdict.TheVariants.{Takes, Outside, Breaks}
+use Rattle.std.specs.Prelude.{Ok, Err}
+use Rattle.rules.specs.declared.Fault.TheVariants.{Outside, Breaks}
 use Rattle.ground.specs.Lists.{among}
-use Rattle.rules.specs.Values.{judged}
+use Rattle.rules.specs.Values.{Verdict, judged}
 use Rattle.ground.proofs.Lists.{leading_most}
 use Rattle.rules.proofs.Verdicts.{nine_means}
 use Rattle.edition.specs.Sets.{permitted}
@@ -111,9 +111,9 @@ byte_within r (b ∷ v) i e = go (permitted r.lengths (length (b ∷ v))) (judge
   where
     go : (q : Bool) (d : Verdict) → judged r.rule (b ∷ v) ≡ d → cond q (of_verdict d) length-out ≡ byte-out i → i < length (b ∷ v)
     go false d q h = absurd (let z : ◌≡◌ {A = ℕ} 0 1 = cc in omega arith)
-    go true Takes q h = absurd (let z : ◌≡◌ {A = ℕ} 0 1 = cc in omega arith)
-    go true (Outside k) q h = let same : k ≡ i = cc in rw (← same) (nine_means r.rule (b ∷ v) k q).inside
-    go true Breaks q h = absurd (let z : ◌≡◌ {A = ℕ} 0 1 = cc in omega arith)
+    go true (Ok u) q h = absurd (let z : ◌≡◌ {A = ℕ} 0 1 = cc in omega arith)
+    go true (Err (Outside k)) q h = let same : k ≡ i = cc in rw (← same) (nine_means r.rule (b ∷ v) k q).inside
+    go true (Err Breaks) q h = absurd (let z : ◌≡◌ {A = ℕ} 0 1 = cc in omega arith)
 
 row_says : (e : Edition) (c : Content) (k : ℕ) (f : Fault) → k < 16 → fault (get_or e.rows k no_row) (get_or c.values k []) ≡ f
     → Says e c (row_refusal (record { tag = tag_of k; row = get_or e.rows k no_row }) f)

@@ -8,6 +8,7 @@ use Rattle.line_keys.proofs.key_of.Reads as key_of
 use Rattle.line_values.proofs.value_in.Reads as value_in
 use Rattle.line_names.proofs.put_line.Reads as put-line
 use Rattle.line_names.proofs.put_name.Reads as put-name
+use Rattle.text_hex.proofs.digit_value.Reads as hex-digit-value
 use Rattle.text_hex.proofs.is_hex.Reads as is-hex
 use Rattle.text_hex.proofs.byte_at.Reads as hex-byte-at
 use Rattle.text_entries.proofs.line_of.Reads as Line-of
@@ -53,6 +54,9 @@ trimmed_once κs a z y e f p q = p ∙ sym q
 
 pub key_named_once : (κs : _) (a : _) (z y : _) (e f : _) → key-named.Post κs a z e → key-named.Post κs a y f → z ≡ y
 key_named_once κs a z y e f p q = p ∙ sym q
+
+pub hex_digit_value_once : (κs : _) (a : _) (z y : _) (e f : _) → hex-digit-value.Post κs a z e → hex-digit-value.Post κs a y f → z ≡ y
+hex_digit_value_once κs a z y e f p q = p.0 ∙ sym q.0
 
 pub is_hex_once : (κs : _) (a : _) (z y : _) (e f : _) → is-hex.Post κs a z e → is-hex.Post κs a y f → z ≡ y
 is_hex_once κs a z y e f p q = p ∙ sym q

@@ -1,6 +1,5 @@
 -- No second answer: two answers, and two buffers, that meet a public function's contract for one input are the same. Assumes nothing.
 use mathlib.Core.Path.{◌≡◌, sym, ◌∙◌}
-use Rattle.lengths.proofs.Laws
 use Rattle.rules.proofs.Verdicts
 use Rattle.edition.proofs.Rows
 use Rattle.card.proofs.Forms
@@ -12,6 +11,7 @@ use Rattle.ground_room.proofs.put_byte.Reads as put_byte
 use Rattle.ground_room.proofs.fill.Reads as fill
 use Rattle.ground_digits.proofs.put_hex.Reads as put-hex
 use Rattle.ground_digits.proofs.put_decimal.Reads as put-decimal
+use Rattle.lengths.proofs.FieldError.number.Reads as lengths-number
 use Rattle.lengths_read.proofs.told.Reads as lengths-told
 use Rattle.lengths_read.proofs.read_length.Reads as lengths-read-length
 use Rattle.lengths_put.proofs.put_length.Reads as put-length
@@ -322,8 +322,11 @@ list_room_once κs a z y e f p q = p.1.0 ∙ sym q.1.0
 pub lengths_told_once : (κs : _) (a : _) (z y : _) (e f : _) → lengths-told.Post κs a z e → lengths-told.Post κs a y f → z ≡ y
 lengths_told_once κs a z y e f p q = p ∙ sym q
 
+pub lengths_number_once : (κs : _) (a : _) (z y : _) (e f : _) → lengths-number.Post κs a z e → lengths-number.Post κs a y f → z ≡ y
+lengths_number_once κs a z y e f p q = p ∙ sym q
+
 pub lengths_read_length_once : (κs : _) (a : _) (z y : _) (e f : _) → lengths-read-length.Post κs a z e → lengths-read-length.Post κs a y f → z ≡ y
-lengths_read_length_once κs a z y e f p q = Laws.length_apart z y (p ∙ sym q)
+lengths_read_length_once κs a z y e f p q = p ∙ sym q
 
 pub put_length_once : (κs : _) (a : _) (z y : _) (e f : _) → put-length.Post κs a z e → put-length.Post κs a y f → z ≡ y
 put_length_once κs a z y e f p q = p.0 ∙ sym q.0

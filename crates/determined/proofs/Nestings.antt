@@ -6,8 +6,10 @@ use Rattle.report_answer.proofs.report.Reads as report
 use Rattle.calls_tables.proofs.nested.Reads as calls-nested
 use Rattle.choosing_least.proofs.choose.Reads as choose
 use Rattle.example_card.proofs.example.Reads as example
-use Rattle.nesting_rules.proofs.pick.Reads as pick
+use Rattle.ground_pick.proofs.pick.Reads as pick
+use Rattle.edition.proofs.by_rule.Reads as by-rule
 use Rattle.nesting_rules.proofs.number_of.Reads as number_of_lem
+use Rattle.nesting_rules.proofs.rule_of.Reads as rule-of
 use Rattle.nesting_rules.proofs.numbers_in.Reads as numbers-in
 use Rattle.nesting_clauses.proofs.clause_of.Reads as nesting-clause
 use Rattle.nesting_rows.proofs.rows_nested.Reads as rows-nested
@@ -52,11 +54,17 @@ kvk_nested_once κs a z y e f p q = p ∙ sym q
 pub calls_nested_once : (κs : _) (a : _) (z y : _) (e f : _) → calls-nested.Post κs a z e → calls-nested.Post κs a y f → z ≡ y
 calls_nested_once κs a z y e f p q = p ∙ sym q
 
-pub pick_once : (κs : _) (a : _) (z y : _) (e f : _) → pick.Post κs a z e → pick.Post κs a y f → z ≡ y
-pick_once κs a z y e f p q = p ∙ sym q
+pub pick_once : (g h i j k : _) (κs : _) (a : _) (z y : _) (e f : _) → pick.Post g h i j k κs a z e → pick.Post g h i j k κs a y f → z ≡ y
+pick_once g h i j k κs a z y e f p q = p ∙ sym q
+
+pub by_rule_once : (κs : _) (a : _) (z y : _) (e f : _) → by-rule.Post κs a z e → by-rule.Post κs a y f → z ≡ y
+by_rule_once κs a z y e f p q = p ∙ sym q
 
 pub number_of_once : (κs : _) (a : _) (z y : _) (e f : _) → number_of_lem.Post κs a z e → number_of_lem.Post κs a y f → z ≡ y
 number_of_once κs a z y e f p q = p ∙ sym q
+
+pub rule_of_once : (κs : _) (a : _) (z y : _) (e f : _) → rule-of.Post κs a z e → rule-of.Post κs a y f → z ≡ y
+rule_of_once κs a z y e f p q = p ∙ sym q
 
 pub numbers_in_once : (κs : _) (a : _) (z y : _) (e f : _) → numbers-in.Post κs a z e → numbers-in.Post κs a y f → z ≡ y
 numbers_in_once κs a z y e f p q = p ∙ sym q

@@ -2,6 +2,8 @@
 use mathlib.Core.Path.{◌≡◌, sym, ap, ◌∙◌}
 use Rattle.calls_foreign.specs.Foreign.{packed_back}
 use Rattle.tree_back.proofs.RoundTrips
+use Rattle.tree.proofs.Refusal.new.Reads as tree-refusal
+use Rattle.tree_back.proofs.BackError.number.Reads as back-number
 use Rattle.tree_tags.proofs.is_bad.Reads as is-bad
 use Rattle.tree_tags.proofs.is_list.Reads as is-list
 use Rattle.tree_heads.proofs.head_of.Reads as head_of
@@ -50,6 +52,12 @@ kvk_tree_write_room_once κs a z y e f p q = (RoundTrips.back_once _ _ _ p.answe
 
 pub calls_tree_write_room_once : (κs : _) (a : _) (z y : _) (e f : _) → calls-tree-write.Post κs a z e → calls-tree-write.Post κs a y f → e.1.1.0.now ≡ f.1.1.0.now
 calls_tree_write_room_once κs a z y e f p q = (RoundTrips.back_once _ _ _ p.answer q.answer _ _ p.back q.back).1
+
+pub tree_refusal_once : (κs : _) (a : _) (z y : _) (e f : _) → tree-refusal.Post κs a z e → tree-refusal.Post κs a y f → z ≡ y
+tree_refusal_once κs a z y e f p q = p ∙ sym q
+
+pub back_number_once : (κs : _) (a : _) (z y : _) (e f : _) → back-number.Post κs a z e → back-number.Post κs a y f → z ≡ y
+back_number_once κs a z y e f p q = p ∙ sym q
 
 pub is_bad_once : (κs : _) (a : _) (z y : _) (e f : _) → is-bad.Post κs a z e → is-bad.Post κs a y f → z ≡ y
 is_bad_once κs a z y e f p q = p ∙ sym q

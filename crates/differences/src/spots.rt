@@ -33,15 +33,13 @@ pub(crate) fn put_objects(
     ensures upper_bound { result ≤ 16 }
 {
     let mut count: usize = 0;
-    let mut i: usize = 0;
-    while i < 16 {
+    for i in 0..16 {
         let a = starts[i] as usize;
         let b = a + lengths[i] as usize;
         let c = others[i] as usize;
         let d = c + sizes[i] as usize;
         let entry = entries::object_entry(edition_tags::tag_of(i), &first[a..b], &second[c..d]);
         count = put_entry(room, count, entry);
-        i += 1;
     }
     count
 }
@@ -54,14 +52,10 @@ pub(crate) fn put_bytes(room: &mut [u32], at: usize, first: &[u8], second: &[u8]
     requires { (at + 14 ≤ length room.old) × (length first.now ≡ 256) × (length second.now ≡ 256) }
     ensures { Put room.old at (byte_words first.now second.now) room.new result }
 {
-    let addresses = ADDRESSES;
     let mut count = at;
-    let mut i: usize = 0;
-    while i < 14 {
-        let a = addresses[i];
-        let entry = entries::byte_entry(a, first[a], second[a]);
+    for address in ADDRESSES {
+        let entry = entries::byte_entry(address, first[address], second[address]);
         count = put_entry(room, count, entry);
-        i += 1;
     }
     count
 }

@@ -17,6 +17,15 @@ pub struct Row {
     pub lengths: u32,
 }
 
+impl Row {
+    // What stands where a table has no row: it permits no length and requires nothing.
+    pub const BLANK: Row = Row {
+        required: false,
+        rule: Rule::Digits,
+        lengths: 0,
+    };
+}
+
 // The number is 1 to 255; every record carries that of the edition that it was read under.
 #[derive(Clone, Copy)]
 pub struct Edition {
@@ -230,13 +239,10 @@ impl Edition {
     pub fn formed(self) -> Formed
         ensures { formed_told result ≡ formed_told (formed_of self) }
     {
-        let mut i: usize = 0;
-        while i < 16 {
-            let row = self.rows[i];
-            if !object_formed(row) {
+        for (i, row) in self.rows[..16].iter().enumerate() {
+            if !object_formed(*row) {
                 return Formed::Bad(i);
             }
-            i += 1;
         }
         let last = self.rows[16];
         if !last_formed(last) {
@@ -250,7 +256,7 @@ impl Edition {
 }
 
 // Of four tests, the one that a rule asks for.
-fn by_rule(rule: Rule, plain: bool, birth: bool, expiry: bool, raw: bool) -> bool
+pub fn by_rule(rule: Rule, plain: bool, birth: bool, expiry: bool, raw: bool) -> bool
     ensures { result ≡ by_rule rule plain birth expiry raw }
 {
     match rule {

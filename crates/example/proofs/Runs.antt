@@ -11,7 +11,7 @@ use Rattle.ground.specs.Lists.{leading, among}
 use Rattle.ground.proofs.Lists.{true_false, and_right, alike_below_lem}
 use Rattle.rules.specs.declared.Rule.{Rule}
 use Rattle.rules.specs.declared.Rule.TheVariants.{Digits, Text, Lead, Code, Birth, Expiry, Raw, NotD}
-use Rattle.rules.specs.declared.Verdict.TheVariants.{Takes}
+use Rattle.std.specs.Prelude.{Ok}
 use Rattle.rules.specs.Values.{is_text, takes, holds, judged}
 use Rattle.rules.proofs.Verdicts.{means_taken}
 use Rattle.edition.specs.declared.Row.{Row}
@@ -85,7 +85,7 @@ left_sense true = refl
 left_sense false = refl
 
 taken : (rule : Rule) (s n : ℕ) → by_rule rule true (eqb s (only 8)) (eqb s (only 4)) false ≡ true → n ≤ 28 → permitted s n ≡ true
-    → judged rule (first_of rule ∷ replicate (n - 1) (rest_of rule)) ≡ Takes
+    → judged rule (first_of rule ∷ replicate (n - 1) (rest_of rule)) ≡ Ok tt
 unfolding holds is_text among
 taken Digits s n f h p = means_taken Digits (0x32 ∷ replicate (n - 1) 0x32) (run_in (takes Digits) 0x32 0x32 (n - 1) refl refl) refl
 taken Text s n f h p = means_taken Text (0x42 ∷ replicate (n - 1) 0x42) (run_in (takes Text) 0x42 0x42 (n - 1) refl refl) refl

@@ -13,7 +13,7 @@ use Rattle.ground.specs.Lists.{leading, among}
 use Rattle.ground.proofs.Lists.{true_false}
 use Rattle.rules.specs.declared.Rule.{Rule}
 use Rattle.rules.specs.declared.Rule.TheVariants.{Digits, Text, Lead, Code, Birth, Expiry, Raw, NotD}
-use Rattle.rules.specs.declared.Verdict.TheVariants.{Takes}
+use Rattle.std.specs.Prelude.{Ok}
 use Rattle.rules.specs.Values.{is_text, takes, holds, judged}
 use Rattle.rules.proofs.Verdicts.{taken_means, means_taken, not_d_means}
 use Rattle.edition.specs.declared.Row.{Row}
@@ -32,7 +32,7 @@ use Rattle.example.proofs.Runs.{some, run_is, run_length, absent_is, run_in, onl
 use Rattle.example.proofs.Widest.{within_wide}
 
 -- ---- a rule that has no length of its own takes a run of one length where it takes one of another
-first_taken : (o : Rule) (f r m : ℕ) → judged o (f ∷ replicate m r) ≡ Takes → takes o f ≡ true
+first_taken : (o : Rule) (f r m : ℕ) → judged o (f ∷ replicate m r) ≡ Ok tt → takes o f ≡ true
 unfolding leading
 first_taken o f r m h = go (takes o f) refl (taken_means o (f ∷ replicate m r) h).0
   where
@@ -63,7 +63,7 @@ abbrev run_of : Rule → ℕ → List ℕ
 run_of i m = first_of i ∷ replicate m (rest_of i)
 
 -- where what the rule asks beyond its characters is asked of the first byte alone
-as_long : (i o : Rule) (m n : ℕ) → (holds o (run_of i m) ≡ holds o (run_of i n)) → judged o (run_of i m) ≡ Takes → judged o (run_of i n) ≡ Takes
+as_long : (i o : Rule) (m n : ℕ) → (holds o (run_of i m) ≡ holds o (run_of i n)) → judged o (run_of i m) ≡ Ok tt → judged o (run_of i n) ≡ Ok tt
 as_long i o m n e h =
     let t : takes o (first_of i) ≡ true = first_taken o (first_of i) (rest_of i) m h in
     means_taken o (run_of i n) (run_in (takes o) (first_of i) (rest_of i) n t (goes_on i o t)) (sym e ∙ (taken_means o (run_of i m) h).1)
@@ -71,18 +71,18 @@ as_long i o m n e h =
 -- a rule of rows that are well formed, of which each inner length is one, and that leaves no D out
 any_length : (i o : Row) (m n : ℕ) → row_formed false i ≡ true → row_formed false o ≡ true → Shorter i o → leaves_d o ≡ false
     → permitted i.lengths m ≡ true → permitted i.lengths n ≡ true
-    → judged o.rule (run_of i.rule (m - 1)) ≡ Takes → judged o.rule (run_of i.rule (n - 1)) ≡ Takes
+    → judged o.rule (run_of i.rule (m - 1)) ≡ Ok tt → judged o.rule (run_of i.rule (n - 1)) ≡ Ok tt
 unfolding holds
 any_length i o m n f g s l p q h = go o.rule (row_rule o g) l h
   where
     in-set : (k : ℕ) → eqb o.lengths (only k) ≡ true → (x : ℕ) → permitted i.lengths x ≡ true → permitted (only k) x ≡ true
     in-set k r x t = subst (λ (y : ℕ). permitted y x ≡ true) (eqb-true o.lengths (only k) r) (s x t)
 
-    one : (rule : Rule) (k : ℕ) → m ≡ k → n ≡ k → judged rule (run_of i.rule (m - 1)) ≡ Takes → judged rule (run_of i.rule (n - 1)) ≡ Takes
-    one rule k a b h = subst (λ (x : ℕ). judged rule (run_of i.rule (x - 1)) ≡ Takes) (a ∙ sym b) h
+    one : (rule : Rule) (k : ℕ) → m ≡ k → n ≡ k → judged rule (run_of i.rule (m - 1)) ≡ Ok tt → judged rule (run_of i.rule (n - 1)) ≡ Ok tt
+    one rule k a b h = subst (λ (x : ℕ). judged rule (run_of i.rule (x - 1)) ≡ Ok tt) (a ∙ sym b) h
 
     go : (rule : Rule) → by_rule rule true (eqb o.lengths (only 8)) (eqb o.lengths (only 4)) false ≡ true → eqb (number_of rule) 7 ≡ false
-        → judged rule (run_of i.rule (m - 1)) ≡ Takes → judged rule (run_of i.rule (n - 1)) ≡ Takes
+        → judged rule (run_of i.rule (m - 1)) ≡ Ok tt → judged rule (run_of i.rule (n - 1)) ≡ Ok tt
     go Digits r l h = as_long i.rule Digits (m - 1) (n - 1) refl h
     go Text r l h = as_long i.rule Text (m - 1) (n - 1) refl h
     go Lead r l h = as_long i.rule Lead (m - 1) (n - 1) refl h
@@ -103,15 +103,15 @@ left_is Expiry h = absurd (true_false h refl)
 left_is Raw h = absurd (true_false h refl)
 left_is NotD h = refl
 
-single : (i o : Row) (v : List ℕ) → row_formed false i ≡ true → leaves_d o ≡ true → permitted i.lengths (length v) ≡ true → judged i.rule v ≡ Takes
-    → (judged o.rule v ≡ Takes → ⊥) → length v ≡ 1
+single : (i o : Row) (v : List ℕ) → row_formed false i ≡ true → leaves_d o ≡ true → permitted i.lengths (length v) ≡ true → judged i.rule v ≡ Ok tt
+    → (judged o.rule v ≡ Ok tt → ⊥) → length v ≡ 1
 single i o v f l p t h = go (eqb (length v) 1) refl
   where
     go : (q : Bool) → eqb (length v) 1 ≡ q → length v ≡ 1
     go true e = eqb-true (length v) 1 e
     go false e =
-        let d : judged NotD v ≡ Takes = (not_d_means v).1 ((within_wide i f).takes v p t, λ s. eqb-false (length v) 1 e (ap length s)) in
-        absurd (h (subst (λ (r : Rule). judged r v ≡ Takes) (sym (left_is o.rule l)) d))
+        let d : judged NotD v ≡ Ok tt = (not_d_means v).1 ((within_wide i f).takes v p t, λ s. eqb-false (length v) 1 e (ap length s)) in
+        absurd (h (subst (λ (r : Rule). judged r v ≡ Ok tt) (sym (left_is o.rule l)) d))
 
 -- the set of the length 1 permits no other, of any length
 only_one : (n : ℕ) → permitted (only 1) n ≡ true → n ≡ 1
@@ -146,7 +146,7 @@ value_both i o n f g s a h = go (leaves_d o) refl (will_some (narrow 2 i o) (suc
     go : (q : Bool) → leaves_d o ≡ q → permitted (cond q (only 1) i.lengths) (suc n) ≡ true → RowMet i (value_for 2 i o (suc n)) × ShowsClause o 2 (value_for 2 i o (suc n))
     go false e p =
         let l : Least i.lengths (shortest_of i.lengths) = let w : Within28 i.lengths = row_within false i f in shortest_least i.lengths w.some w.even (omega (arith, w.small)) in
-        let no : judged o.rule (run_of i.rule (shortest_of i.lengths - 1)) ≡ Takes → ⊥ = subst (λ (v : List ℕ). judged o.rule v ≡ Takes → ⊥) (first_witness i o e) a.outer in
+        let no : judged o.rule (run_of i.rule (shortest_of i.lengths - 1)) ≡ Ok tt → ⊥ = subst (λ (v : List ℕ). judged o.rule v ≡ Ok tt → ⊥) (first_witness i o e) a.outer in
         subst (λ (v : List ℕ). RowMet i v × ShowsClause o 2 v) (sym (first_value i o (suc n) e (omega arith) (most_28 i (suc n) f p)))
         (run_met i (suc n) f p, not_taken (λ t. no (any_length i o (suc n) (shortest_of i.lengths) f g s e p l.member t)))
     go true e p =

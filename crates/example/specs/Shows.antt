@@ -1,7 +1,7 @@
 -- What the card is for: the inner takes it and the outer does not; and what it is for a card to show the no that is told.
 use Rattle.std.specs.Prelude.{ℕ, ◌≡◌, true, false, List, [], ◌∷◌, length, get_or}
 use Rattle.ground.specs.Lists.{among}
-use Rattle.rules.specs.declared.Verdict.TheVariants.{Takes}
+use Rattle.std.specs.Prelude.{Ok}
 use Rattle.rules.specs.Values.{judged}
 use Rattle.edition.specs.declared.Row.{Row}
 use Rattle.edition.specs.declared.Edition.{Edition}
@@ -28,7 +28,7 @@ pub record Shows (i o : Edition) (image : List ℕ) : Type 0 where
 -- a value that shows a clause of the outer's row: 1 its length is none of the set, 2 the rule does not take it, 3 it is absent
 pub data ShowsClause (o : Row) : ℕ → List ℕ → Type 0 where
   lacks : {b : ℕ} {v : List ℕ} → permitted o.lengths (length (b ∷ v)) ≡ false → ShowsClause o 1 (b ∷ v)
-  not_taken : {b : ℕ} {v : List ℕ} → (judged o.rule (b ∷ v) ≡ Takes → ⊥) → ShowsClause o 2 (b ∷ v)
+  not_taken : {b : ℕ} {v : List ℕ} → (judged o.rule (b ∷ v) ≡ Ok tt → ⊥) → ShowsClause o 2 (b ∷ v)
   absent : ShowsClause o 3 []
 
 -- a content that the inner allows and whose object at the row told shows the clause told

@@ -15,13 +15,11 @@ use nesting::Nesting;
 pub fn chosen_card(inner: Edition, outer: Edition, told: Nesting) -> Record
     ensures { result ≡ record_of inner.number (chosen_card inner outer told) }
 {
-    let mut long: usize = 0;
-    while long < 16 {
+    for long in 0..16 {
         let record = example_record::card_of(inner, outer, told, long);
         if checks::objects_size(record) + 3 >= 70 {
             return record;
         }
-        long += 1;
     }
     example_record::card_of(inner, outer, told, 16)
 }

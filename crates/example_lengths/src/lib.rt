@@ -11,7 +11,6 @@ use choosing::Three;
 use edition::Row;
 use example::PLAIN;
 use example_sums::{by_place, is_grouped, place_of, start_of};
-use rules::Rule;
 
 // Row k; past the last a row that permits no length.
 fn row_at(rows: [Row; 17], k: usize) -> Row
@@ -21,11 +20,7 @@ fn row_at(rows: [Row; 17], k: usize) -> Row
         let row = rows[k];
         return row;
     }
-    Row {
-        required: false,
-        rule: Rule::Digits,
-        lengths: 0,
-    }
+    Row::BLANK
 }
 
 // The lengths of the three objects of a sum; of a row that stands in none two are absent.

@@ -3,17 +3,12 @@
 // Beside the rule that leaves D out the length is 1, since only the single D is not taken by it.
 #![tactic(auto)]
 
-ghost use Rattle.std.specs.Prelude.{◌≡◌, cond};
+ghost use Rattle.std.specs.Prelude.{◌≡◌};
 ghost use Rattle.example.specs.Cards.{part_of, narrow};
 
 use edition::Row;
+use ground_pick::pick;
 use nesting::Nesting;
-
-fn pick(test: bool, yes: u32, no: u32) -> u32
-    ensures { result ≡ cond test yes no }
-{
-    if test { yes } else { no }
-}
 
 pub fn narrow(clause: u8, inner: Row, outer: Row) -> Row
     ensures { result ≡ narrow clause inner outer }

@@ -16,18 +16,13 @@ pub fn objects_of(inner: [Row; 17], outer: [Row; 17], told: Nesting, long: usize
 {
     let rows = example_rows::rows_for(inner, outer, told);
     let mut objects = [Object::ABSENT; 16];
-    let mut k: usize = 0;
-    while k < 16 {
-        let i = inner[k];
-        let o = outer[k];
-        let part = example_narrow::part_of(told, k);
-        objects[k] = example_values::object_for(
-            part,
-            i,
-            o,
+    for (k, object) in objects.iter_mut().enumerate() {
+        *object = example_values::object_for(
+            example_narrow::part_of(told, k),
+            inner[k],
+            outer[k],
             example_lengths::length_at(rows, long, k),
         );
-        k += 1;
     }
     objects
 }

@@ -11,26 +11,10 @@ fn is_run(part: &[u8], b: u8) -> bool
     ensures { result ≡ eqb (agree (replicate (length part.now) b) part.now) (length part.now) }
 {
     let mut difference = 0u8;
-    let mut i = 0;
-    while i < part.len() {
-        difference = difference | (part[i] ^ b);
-        i += 1;
+    for x in part {
+        difference |= *x ^ b;
     }
     difference == 0
-}
-
-// The same as count_run, byte by byte.
-fn count_equal(part: &[u8], b: u8) -> usize
-    ensures { result ≡ agree (replicate (length part.now) b) part.now }
-{
-    let mut i = 0;
-    while i < part.len() {
-        if part[i] != b {
-            return i;
-        }
-        i += 1;
-    }
-    i
 }
 
 // How many bytes at the head of a part are b.
@@ -38,8 +22,7 @@ pub fn count_run(part: &[u8], b: u8) -> usize
     ensures { result ≡ agree (replicate (length part.now) b) part.now }
 {
     if is_run(part, b) {
-        part.len()
-    } else {
-        count_equal(part, b)
+        return part.len();
     }
+    part.iter().take_while(|x| **x == b).count()
 }

@@ -2,13 +2,13 @@
 -- The two cards are weighed by their places, and record and places tell the same content. Assumes nothing.
 use Prim.Native.Nat.{ℕ, ◌≤◌}
 use native.Mathlib.Omega.{arith}
-use borrow.Author.Tests.{eqb-true, eq-eqb, ltb-true, ltb-false, le-ltb}
+use borrow.Author.Tests.{eqb-true, eq-eqb, ne_eqb, ltb-true, ltb-false, le-ltb}
 use mathlib.Core.Path.{◌≡◌, refl, sym, ap, ◌∙◌}
 use mathlib.Core.Bool.{Bool, true, false, cond, ◌&&◌}
-use mathlib.Core.List.{List, []}
+use mathlib.Core.List.{List, [], ◌∷◌}
 use lib.Dec.{eqb, ltb}
 use lib.IntN.{ℤ, pos, neg_ℤ, ◌-ℤ◌, ◌+ℤ◌, neg_ℤ-neg_ℤ, neg_ℤ-+ℤ, +ℤ_comm, +ℤ_invr}
-use lib.ListN.{get_or}
+use lib.ListN.{length, get_or}
 use Rattle.ground.proofs.Lists.{true_false}
 use Rattle.edition.specs.declared.Edition.{Edition}
 use Rattle.card.specs.declared.Refusal.{Refusal}
@@ -23,20 +23,20 @@ use Rattle.lookup.proofs.Cuts.{within_is}
 use Rattle.lookup.proofs.Tells.{same_refusal, tell_alike}
 use Rattle.fresher.specs.declared.Card.{Card}
 use Rattle.fresher.specs.declared.Fresher.{Fresher}
-use Rattle.fresher.specs.Comparing.{months_of, expires, card_of, unweighed, later, weighed, fresher_of, name_of}
+use Rattle.fresher.specs.Comparing.{months_of, validity_in, expires, card_of, dated, months_or_0, unweighed, later, weighed, fresher_of, name_of}
 
 -- ---- nothing is refused
 pub record Weighed (expiry : Bool) (a b : Card) : Type 0 where
   pub first : a.refusal.number ≡ 0
   pub second : b.refusal.number ≡ 0
-  pub dated : expiry && (a.dated && b.dated) ≡ true
+  pub dated : expiry && (dated a.months && dated b.months) ≡ true
   pub is : weighed expiry a b ≡ later a b
 
 weighs : (expiry : Bool) (a b : Card) → (weighed expiry a b).refusal.number ≡ 0 → Weighed expiry a b
 unfolding weighed gate
-weighs expiry a b z = go (eqb a.refusal.number 0) refl (eqb b.refusal.number 0) refl (expiry && (a.dated && b.dated)) refl z
+weighs expiry a b z = go (eqb a.refusal.number 0) refl (eqb b.refusal.number 0) refl (expiry && (dated a.months && dated b.months)) refl z
   where
-    go : (p : Bool) → eqb a.refusal.number 0 ≡ p → (q : Bool) → eqb b.refusal.number 0 ≡ q → (r : Bool) → expiry && (a.dated && b.dated) ≡ r
+    go : (p : Bool) → eqb a.refusal.number 0 ≡ p → (q : Bool) → eqb b.refusal.number 0 ≡ q → (r : Bool) → expiry && (dated a.months && dated b.months) ≡ r
         → (gate p (unweighed a.refusal) (gate q (unweighed b.refusal) (gate r (unweighed (refuse 24 0 0)) (later a b)))).refusal.number ≡ 0 → Weighed expiry a b
     go false f q g r h n = absurd (true_false (eq-eqb a.refusal.number 0 n) f)
     go true f false g r h n = absurd (true_false (eq-eqb b.refusal.number 0 n) g)
@@ -63,9 +63,15 @@ card_name : (e : Edition) (s : List ℕ) → LentEdition e → (card_of e s).ref
 unfolding card_of
 card_name e s n z = sym ((tell_alike e s n (accepts_zero e s z)).value 9)
 
-card_months : (e : Edition) (s : List ℕ) → LentEdition e → (card_of e s).refusal.number ≡ 0 → (card_of e s).months ≡ months_of (validity_read e s)
+-- no part has 0 months
+months_kept : (v : List ℕ) → months_or_0 (validity_in v) ≡ months_of v
+unfolding validity_in months_of
+months_kept [] = refl
+months_kept (b ∷ v) = rw (ne_eqb (length (b ∷ v)) 0 (λ e. absurd (omega arith)))
+
+card_months : (e : Edition) (s : List ℕ) → LentEdition e → (card_of e s).refusal.number ≡ 0 → months_or_0 (card_of e s).months ≡ months_of (validity_read e s)
 unfolding card_of
-card_months e s n z = ap months_of (sym ((tell_alike e s n (accepts_zero e s z)).value 15))
+card_months e s n z = months_kept _ ∙ ap months_of (sym ((tell_alike e s n (accepts_zero e s z)).value 15))
 
 module _ (e : Edition) (s t : List ℕ) (n : LentEdition e) (z : (fresher_of e s t).refusal.number ≡ 0) where
   abbrev first : Card
@@ -84,7 +90,7 @@ module _ (e : Edition) (s t : List ℕ) (n : LentEdition e) (z : (fresher_of e s
 
   pub name_told : name_of (fresher_of e s t) s t ≡ family_read e (cond (fresher_of e s t).second t s)
   unfolding later
-  name_told = rw is (go (ltb first.months second.months))
+  name_told = rw is (go (ltb (months_or_0 first.months) (months_or_0 second.months)))
     where
       go : (q : Bool) → within (cond q t s) (cond q second.start first.start) (cond q second.length first.length) ≡ family_read e (cond q t s)
       go true = card_name e t n right.second
@@ -108,7 +114,7 @@ module _ (e : Edition) (s t : List ℕ) (n : LentEdition e) (z : (fresher_of e s
       go false h = let l = ltb-false (monthsRead s) (monthsRead t) h in (omega arith, omega arith)
 
   -- both cards are dated, and by the rule of expiry
-  pub both_dated : expires e && (first.dated && second.dated) ≡ true
+  pub both_dated : expires e && (dated first.months && dated second.months) ≡ true
   both_dated = right.dated
 
 -- ---- with a refusal the part is empty, the distance 0 and the card named the first
@@ -119,7 +125,7 @@ pub record Nothing (f : Fresher) (s t : List ℕ) : Type 0 where
 
 pub refused_nothing : (e : Edition) (s t : List ℕ) → ((fresher_of e s t).refusal.number ≡ 0 → ⊥) → Nothing (fresher_of e s t) s t
 unfolding fresher_of weighed gate later
-refused_nothing e s t = go (eqb a.refusal.number 0) (eqb b.refusal.number 0) (expires e && (a.dated && b.dated))
+refused_nothing e s t = go (eqb a.refusal.number 0) (eqb b.refusal.number 0) (expires e && (dated a.months && dated b.months))
   where
     a : Card
     a = card_of e s
@@ -143,7 +149,7 @@ less_turned m k = sym (neg_ℤ-+ℤ k (neg_ℤ m) ∙ ap (λ (x : ℤ). neg_ℤ 
 
 weighed_turned : (expiry : Bool) (a b : Card) → (weighed expiry b a).months ≡ neg_ℤ (weighed expiry a b).months
 unfolding weighed gate later
-weighed_turned expiry a b = go (eqb a.refusal.number 0) (eqb b.refusal.number 0) expiry a.dated b.dated
+weighed_turned expiry a b = go (eqb a.refusal.number 0) (eqb b.refusal.number 0) expiry (dated a.months) (dated b.months)
   where
     go : (p q x y z : Bool)
         → (gate q (unweighed b.refusal) (gate p (unweighed a.refusal) (gate (x && (z && y)) (unweighed (refuse 24 0 0)) (later b a)))).months
@@ -155,7 +161,7 @@ weighed_turned expiry a b = go (eqb a.refusal.number 0) (eqb b.refusal.number 0)
     go true true true false false = refl
     go true true true false true = refl
     go true true true true false = refl
-    go true true true true true = less_turned (pos a.months) (pos b.months)
+    go true true true true true = less_turned (pos (months_or_0 a.months)) (pos (months_or_0 b.months))
 
 pub distance_turned : (e : Edition) (s t : List ℕ) → (fresher_of e t s).months ≡ neg_ℤ (fresher_of e s t).months
 unfolding fresher_of
@@ -164,7 +170,7 @@ distance_turned e s t = weighed_turned (expires e) (card_of e s) (card_of e t)
 -- ---- one card twice: the first, and 0
 pub same_card : (e : Edition) (s : List ℕ) → ((fresher_of e s s).second ≡ false) × ((fresher_of e s s).months ≡ pos 0)
 unfolding fresher_of weighed gate later
-same_card e s = go (eqb a.refusal.number 0) (expires e && (a.dated && a.dated))
+same_card e s = go (eqb a.refusal.number 0) (expires e && (dated a.months && dated a.months))
   where
     a : Card
     a = card_of e s
@@ -173,4 +179,4 @@ same_card e s = go (eqb a.refusal.number 0) (expires e && (a.dated && a.dated))
         (f.second ≡ false) × (f.months ≡ pos 0))
     go false r = (refl, refl)
     go true false = (refl, refl)
-    go true true = (le-ltb a.months a.months (omega arith), +ℤ_invr (pos a.months))
+    go true true = (le-ltb (months_or_0 a.months) (months_or_0 a.months) (omega arith), +ℤ_invr (pos (months_or_0 a.months)))

@@ -16,12 +16,11 @@ pub struct Fresher {
     pub length: u8,
 }
 
-// What its places tell of one card: whether it has a validity, in months, and where the family name stands.
+// What its places tell of one card: its validity in months, if it has one, and where the family name stands.
 #[derive(Clone, Copy)]
 pub struct Card {
     pub refusal: Refusal,
-    pub dated: bool,
-    pub months: u16,
+    pub months: Option<u16>,
     pub start: u8,
     pub length: u8,
 }

@@ -5,7 +5,7 @@
 
 ghost use Rattle.std.specs.Prelude.{◌≡◌, true, false};
 ghost use Rattle.edition.specs.Rows.{by_rule};
-ghost use Rattle.fresher.specs.Comparing.{expires, card_of};
+ghost use Rattle.fresher.specs.Comparing.{validity_in, expires, card_of};
 
 use edition::Edition;
 use fresher::Card;
@@ -15,16 +15,7 @@ use rules::Rule;
 fn is_expiry(rule: Rule) -> bool
     ensures { result ≡ by_rule rule false false true false }
 {
-    match rule {
-        Rule::Digits => false,
-        Rule::Text => false,
-        Rule::Lead => false,
-        Rule::Code => false,
-        Rule::Birth => false,
-        Rule::Expiry => true,
-        Rule::Raw => false,
-        Rule::NotD => false,
-    }
+    matches!(rule, Rule::Expiry)
 }
 
 // Whether the rule of row 8D is expiry.
@@ -36,6 +27,17 @@ pub fn is_dated(edition: Edition) -> bool
     is_expiry(rule)
 }
 
+// The months of a validity; there are none where its part is empty.
+#[tactic(auto, unfolding(fresher::specs::Comparing::validity_in))]
+fn validity_in(validity: &[u8]) -> Option<u16>
+    ensures { result ≡ validity_in validity.now }
+{
+    if validity.len() == 0 {
+        return None;
+    }
+    Some(months_of(validity))
+}
+
 // What the places of a card tell of it.
 pub fn look(edition: Edition, image: &[u8]) -> Card
     ensures { result ≡ card_of edition image.now }
@@ -45,11 +47,9 @@ pub fn look(edition: Edition, image: &[u8]) -> Card
     let starts = table.starts;
     let lengths = table.lengths;
     let validity = lookup::part_at(image, table, 15);
-    let dated = validity.len() != 0;
     Card {
         refusal,
-        dated,
-        months: months_of(validity),
+        months: validity_in(validity),
         start: starts[9],
         length: lengths[9],
     }

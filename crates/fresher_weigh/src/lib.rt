@@ -3,18 +3,14 @@
 // With a refusal the card named is the first, the distance 0 and the part empty.
 #![tactic(auto)]
 
-ghost use Rattle.std.specs.Prelude.{◌≡◌, cond};
+ghost use Rattle.std.specs.Prelude.{◌≡◌};
+ghost use Rattle.card.specs.Refusals.{refuse};
 ghost use Rattle.fresher.specs.Comparing.{unweighed, later, weighed};
 
 use card::Refusal;
 use fresher::{Card, Fresher};
 use fresher_months::apart;
-
-fn choose(second: bool, a: u8, b: u8) -> u8
-    ensures { result ≡ cond second b a }
-{
-    if second { b } else { a }
-}
+use ground_pick::pick;
 
 fn refuse(refusal: Refusal) -> Fresher
     ensures { result ≡ unweighed refusal }
@@ -28,18 +24,26 @@ fn refuse(refusal: Refusal) -> Fresher
     }
 }
 
+// 24: a validity is missing, or is none by the rule.
+fn undated() -> Fresher
+    ensures { result ≡ unweighed (refuse 24 0 0) }
+{
+    refuse(Refusal::new(24, 0, 0))
+}
+
 // The card that is valid later; the first where both are valid as long.
-fn compare_dates(a: Card, b: Card) -> Fresher
+fn compare_dates(a: Card, b: Card, from: u16, to: u16) -> Fresher
+    requires { (a.months ≡ Some from) × (b.months ≡ Some to) }
     ensures { result ≡ later a b }
 {
-    let months = apart(a.months, b.months);
-    let second = a.months < b.months;
+    let months = apart(from, to);
+    let second = from < to;
     Fresher {
         refusal: Refusal::none(),
         second,
         months,
-        start: choose(second, a.start, b.start),
-        length: choose(second, a.length, b.length),
+        start: pick(second, b.start, a.start),
+        length: pick(second, b.length, a.length),
     }
 }
 
@@ -55,8 +59,16 @@ pub fn weigh(expiry: bool, a: Card, b: Card) -> Fresher
     if other.number != 0 {
         return refuse(other);
     }
-    if !(expiry & (a.dated & b.dated)) {
-        return refuse(Refusal::new(24, 0, 0));
+    if !expiry {
+        return undated();
     }
-    compare_dates(a, b)
+    let from = match a.months {
+        Some(months) => months,
+        None => return undated(),
+    };
+    let to = match b.months {
+        Some(months) => months,
+        None => return undated(),
+    };
+    compare_dates(a, b, from, to)
 }

@@ -10,27 +10,12 @@ ghost use Rattle.front.specs.Refusing.{other_rows, printed_rows, underscored};
 
 use card::{Object, Record};
 
-// How many of its bytes an object claims.
-fn claimed(length: u8) -> usize
-    ensures { result ≡ cond (ltb length 28) length 28 }
-{
-    if length < 28 { length as usize } else { 28 }
-}
-
 // Whether a value has an underscore.
 fn has_underscore(item: Object) -> bool
     ensures { result ≡ among 0x5F (value_of item) }
 {
-    let n = claimed(item.length);
-    let value = item.bytes;
-    let mut i = 0;
-    while i < n {
-        if value[i] == b'_' {
-            return true;
-        }
-        i += 1;
-    }
-    false
+    let n = usize::from(item.length).min(28);
+    item.bytes[..n].contains(&b'_')
 }
 
 // Where the printed rows begin: the fund name is the first.
@@ -46,13 +31,12 @@ pub fn has_underscores(content: Record, fund: bool) -> bool
     ensures { result ≡ underscored (content_of content) (printed_rows fund) }
 {
     let rows: [usize; 10] = [0, 1, 3, 4, 5, 6, 7, 8, 9, 15];
-    let mut i = first_printed(fund);
-    while i < 10 {
+    let first = first_printed(fund);
+    for i in first..10 {
         let row = rows[i];
         if has_underscore(content.objects[row]) {
             return true;
         }
-        i += 1;
     }
     false
 }

@@ -1,5 +1,5 @@
 -- Laws of lists of numbers, and of tests on them. Assumes nothing.
-use Prim.Native.Nat.{ℕ, zero, suc, ◌+◌, ◌≤◌, ◌<◌, suc-le-suc}
+use Prim.Native.Nat.{ℕ, zero, suc, min, ◌+◌, ◌≤◌, ◌<◌, suc-le-suc}
 use native.Mathlib.Nat.{le_of_suc-le-suc, not-suc-le-zero, zero-lt-suc}
 use native.Mathlib.Numerals.{add-one}
 use native.Mathlib.Omega.{arith}
@@ -8,8 +8,10 @@ use mathlib.Core.Path.{◌≡◌, refl, sym, ap, ◌∙◌}
 use mathlib.Core.Bool.{Bool, true, false, cond, not, ◌&&◌, ◌||◌, or-true}
 use mathlib.Core.List.{List, [], ◌∷◌, ◌++◌}
 use lib.Dec.{eqb}
-use lib.ListN.{length, get_or, drop}
+use lib.ListN.{length, get_or, take, drop}
+use lib.Pointwise.{pointwise}
 use lib.Seq.{drop-cons, drop-length}
+use Rattle.std.specs.List.{prefix_len, zip}
 use Rattle.ground.specs.Lists.{among, leading, agree, same_list}
 
 -- ---- tests
@@ -109,27 +111,7 @@ leading_wider f g (x ∷ xs) w h = go (f x) refl h (leading_wider f g xs w)
     go false e l ih = absurd (not-suc-le-zero l)
 
 -- ---- where two lists first differ
-module _ (xs ys : List ℕ) (i : ℕ) (h : i < length xs) (k : i < length ys) where
-  pub agree_pass : get_or xs i 0 ≡ get_or ys i 0 → i + agree (drop i xs) (drop i ys) ≡ i + 1 + agree (drop (i + 1) xs) (drop (i + 1) ys)
-  unfolding agree
-  agree_pass e = simp (drop-cons xs i 0 h, drop-cons ys i 0 k, eq-eqb _ _ e, add-one) (omega arith)
-
-  pub agree_stop : (get_or xs i 0 ≡ get_or ys i 0 → ⊥) → i + agree (drop i xs) (drop i ys) ≡ i
-  unfolding agree
-  agree_stop e = simp (drop-cons xs i 0 h, drop-cons ys i 0 k, ne_eqb _ _ e) (omega arith)
-
-pub agree_end : (xs ys : List ℕ) → agree (drop (length xs) xs) ys ≡ 0
-unfolding agree
-agree_end [] ys = refl
-agree_end (x ∷ xs) ys = agree_end xs ys
-
 -- a list agrees with itself to its end, and two of one length that agree to the end are one
--- nothing agrees with no list
-pub agree_none_left : (xs : List ℕ) → agree xs [] ≡ 0
-unfolding agree
-agree_none_left [] = refl
-agree_none_left (x ∷ xs) = refl
-
 pub agree_self : (xs : List ℕ) → agree xs xs ≡ length xs
 unfolding agree
 agree_self [] = refl
@@ -216,3 +198,37 @@ same_equal (x ∷ xs) (y ∷ ys) e =
 
 pub same_self : (xs : List ℕ) → same_list xs xs ≡ true
 same_self xs = same_agree xs xs refl ∙ eq-eqb _ _ (agree_self xs)
+
+-- ---- lists compared in pairs, as std compares them
+pub same_pairs : (xs ys : List ℕ) → pointwise eqb xs ys ≡ same_list xs ys
+unfolding same_list
+same_pairs [] [] = refl
+same_pairs [] (y ∷ ys) = refl
+same_pairs (x ∷ xs) [] = refl
+same_pairs (x ∷ xs) (y ∷ ys) = ap (λ (b : Bool). eqb x y && b) (same_pairs xs ys)
+
+pub eqb_turned : (x y : ℕ) → eqb x y ≡ eqb y x
+eqb_turned x y = go (eqb x y) refl (eqb y x) refl
+  where
+    go : (p : Bool) → eqb x y ≡ p → (q : Bool) → eqb y x ≡ q → p ≡ q
+    go true e true f = refl
+    go false e false f = refl
+    go true e false f = absurd (eqb-false y x f (sym (eqb-true x y e)))
+    go false e true f = absurd (eqb-false x y e (sym (eqb-true y x f)))
+
+-- std counts by `1 + n`, and the definitions of this crate by `suc n`
+pub one_more : (q : Bool) (n : ℕ) → cond q (1 + n) 0 ≡ cond q (suc n) 0
+one_more true n = omega arith
+one_more false n = refl
+
+-- how many pairs at the head are alike, where both lists are cut to the length of the shorter
+pub agree_pairs : (xs ys : List ℕ) (n : ℕ) → n ≡ min (length ys) (length xs) → prefix_len (λ (p : ℕ × ℕ). eqb p.0 p.1) (zip (take n ys) (take n xs)) ≡ agree xs ys
+unfolding agree
+agree_pairs [] [] zero e = refl
+agree_pairs [] (y ∷ ys) zero e = refl
+agree_pairs (x ∷ xs) [] zero e = refl
+agree_pairs (x ∷ xs) (y ∷ ys) zero e = absurd (omega arith)
+agree_pairs [] [] (suc n) e = absurd (omega arith)
+agree_pairs [] (y ∷ ys) (suc n) e = absurd (omega arith)
+agree_pairs (x ∷ xs) [] (suc n) e = absurd (omega arith)
+agree_pairs (x ∷ xs) (y ∷ ys) (suc n) e = rw (eqb_turned y x, agree_pairs xs ys n (omega arith)) (one_more (eqb x y) (agree xs ys))

@@ -10,9 +10,10 @@ use mathlib.Core.List.{List, [], ◌∷◌, ◌++◌}
 use lib.Bits.{bit_or, bit_xor, or_add_and, xor_add_and, and_le_l, and_le_r, xor_self}
 use lib.Dec.{eqb}
 use lib.ListN.{length, get_or, take, drop, replicate, length-replicate, get_or-replicate, length-drop}
-use lib.Seq.{drop-drop, take_all, ext_get_or}
-use Rattle.ground.specs.Lists.{agree, same_list}
-use Rattle.ground.proofs.Lists.{true_false, agree_pass, agree_stop, agree_end, agree_same, same_self, same_equal}
+use lib.Seq.{drop-drop, take_all}
+use Rattle.std.specs.List.{prefix_len}
+use Rattle.ground.specs.Lists.{agree}
+use Rattle.ground.proofs.Lists.{agree_same, eqb_turned, one_more}
 
 -- what lies behind the length of the first list is not looked at
 pub agree_cut : (n : ℕ) (xs zs : List ℕ) → length xs ≤ n → agree xs (take n zs) ≡ agree xs zs
@@ -74,23 +75,10 @@ module _ (s : List ℕ) (at k : ℕ) (xs ys : List ℕ) {n : ℕ} (counted : n �
       run_passes s at xs ys (omega arith)
 
 -- ---- a run of one byte, b, over the whole of a part
-module _ (part : List ℕ) (b i : ℕ) where
-  pub run_pass : i < length part → get_or part i 0 ≡ b
-      → i + agree (drop i (replicate (length part) b)) (drop i part) ≡ i + 1 + agree (drop (i + 1) (replicate (length part) b)) (drop (i + 1) part)
-  run_pass h e =
-      let l = length-replicate (length part) b in
-      agree_pass (replicate (length part) b) part i (omega arith) h (get_or-replicate (length part) i b 0 h ∙ sym e)
-
-  pub run_stop : i < length part → (get_or part i 0 ≡ b → ⊥) → i + agree (drop i (replicate (length part) b)) (drop i part) ≡ i
-  run_stop h e =
-      let l = length-replicate (length part) b in
-      agree_stop (replicate (length part) b) part i (omega arith) h (λ q. e (sym q ∙ get_or-replicate (length part) i b 0 h))
-
-  pub run_end : i ≡ length part → i + agree (drop i (replicate (length part) b)) (drop i part) ≡ i
-  run_end h =
-      let l = length-replicate (length part) b in
-      let z : agree (drop i (replicate (length part) b)) (drop i part) ≡ 0 = rw (h ∙ sym l) (agree_end (replicate (length part) b) _) in
-      omega arith
+pub run_counted : (part : List ℕ) (b : ℕ) → prefix_len (λ (x : ℕ). eqb x b) part ≡ agree (replicate (length part) b) part
+unfolding agree
+run_counted [] b = refl
+run_counted (x ∷ xs) b = rw (eqb_turned x b, run_counted xs b) (one_more (eqb b x) (agree (replicate (length xs) b) xs))
 
 -- bytes that are all b agree with a run of b
 pub agree_all : (k b : ℕ) (zs : List ℕ) → k ≤ length zs → ((i : ℕ) → i < k → get_or zs i 0 ≡ b) → agree (replicate k b) zs ≡ k
@@ -152,13 +140,3 @@ differs_run part b d w = go (eqb d 0) refl
         let l = length-replicate (length part) b in
         let is : replicate (length part) b ≡ part = agree_same (replicate (length part) b) part l (same ∙ sym l) in
         ap (λ (x : List ℕ). get_or x k 0) (sym is) ∙ get_or-replicate (length part) k b 0 h))))
-
--- .. of another part
-pub differs_part : (part other : List ℕ) (d : ℕ) → length part ≡ length other → Differs part (λ (k : ℕ). get_or other k 0) d (length other) → eqb d 0 ≡ same_list part other
-differs_part part other d n w = go (eqb d 0) refl (same_list part other) refl
-  where
-    go : (q : Bool) → eqb d 0 ≡ q → (r : Bool) → same_list part other ≡ r → q ≡ r
-    go true e true f = refl
-    go false e false f = refl
-    go true e false f = absurd (true_false (same_self other) (rw (ext_get_or 0 part other n (λ k h. w.none (eqb-true d 0 e) k (omega arith))) at f))
-    go false e true f = absurd (eqb-false d 0 e (w.some (λ k h. ap (λ (x : List ℕ). get_or x k 0) (same_equal part other f))))

@@ -8,8 +8,8 @@ use native.Mathlib.Omega.{arith}
 use borrow.Author.Tests.{eqb-true, eqb-false}
 use mathlib.Core.Bool.{Bool, true, false}
 use lib.Dec.{eqb}
-use lib.ListN.{length, get_or, take, drop, set, drop_of_length-le, length-drop, replicate, length-replicate, replicate-append-replicate}
-use lib.Seq.{sets, sets-eq, take_all, take-suc, take_at, drop_at, length-take-le, get_or-set_same, get_or-set_other}
+use lib.ListN.{length, get_or, take, drop, set, drop_of_length-le, length-drop, replicate, length-replicate}
+use lib.Seq.{sets, sets-eq, drop-drop, take_all, take-suc, take_at, drop_at, length-take-le, get_or-set_same, get_or-set_other}
 
 -- two runs, the second behind the first, are one
 sets_append : (l : List ℕ) (i : ℕ) (xs ys : List ℕ) → sets (sets l i xs) (i + length xs) ys ≡ sets l i (xs ++ ys)
@@ -28,10 +28,7 @@ sets_whole l vs e =
     let h : length l ≤ 0 + length vs = omega arith in
     sets-eq vs l 0 (omega arith) ∙ ap (λ (r : List ℕ). vs ++ r) (drop_of_length-le l h) ∙ append-nil vs
 
--- one turn of a loop that stores b from i on, and of one that copies s to `at` on
-pub sets_fill : (l : List ℕ) (i k b : ℕ) → set (sets l i (replicate k b)) (i + k) b ≡ sets l i (replicate (k + 1) b)
-sets_fill l i k b = sets_then l (replicate k b) i (b ∷ []) refl (rw length-replicate) ∙ ap (sets l i) (replicate-append-replicate k 1 b)
-
+-- one turn of a loop that copies s to `at` on
 pub sets_copy : (l : List ℕ) (at : ℕ) (s : List ℕ) (i : ℕ) → i < length s → set (sets l at (take i s)) (at + i) (get_or s i 0) ≡ sets l at (take (i + 1) s)
 sets_copy l at s i h =
     let k : i ≤ length s = omega arith in
@@ -62,6 +59,12 @@ pub lent_end_back : (l ys : List ℕ) (a : ℕ) → take a l ++ (ys ++ drop (len
 lent_end_back l ys a =
     let h : length (drop a l) ≤ length l - a = simp length-drop (omega arith) in
     rw (drop_of_length-le (drop a l) h, append-nil)
+
+-- a part lent from a on: what comes back in its place is a run of stores
+pub lent_part_back : (l ys : List ℕ) (a n : ℕ) → n ≡ length ys → a + length ys ≤ length l → take a l ++ (ys ++ drop n (drop a l)) ≡ sets l a ys
+lent_part_back l ys a n e h =
+    rw (e, drop-drop (length ys) a l)
+    (sym (sets-eq ys l a h ∙ append_assoc (take a l) ys (drop (a + length ys) l)))
 
 -- ---- a list filled by its index: what holds below i, and of what is stored at i, holds below i + 1
 pub filled_more : (l : List ℕ) (f : ℕ → ℕ) (i v : ℕ) → i < length l → v ≡ f i → ((k : ℕ) → k < i → get_or l k 0 ≡ f k) → (k : ℕ) → k < i + 1 → get_or (set l i v) k 0 ≡ f k

@@ -14,6 +14,7 @@ fn hex_digit(n: u8) -> u8
 }
 
 // Puts a byte as two hex digits.
+#[tactic(auto, unfolding(ground::specs::Rooms::hex))]
 pub fn put_hex(room: &mut [u8], at: usize, byte: u8) -> usize
     ensures value { result ≡ behind_put room.old at (hex byte) }
     ensures room_after { room.new ≡ room_with room.old at (hex byte) }
@@ -29,6 +30,7 @@ fn last_digit(n: usize) -> u8
 }
 
 // Puts a number in decimal: the last three digits, where it has more.
+#[tactic(auto, unfolding(ground::specs::Rooms::decimal))]
 pub fn put_decimal(room: &mut [u8], at: usize, n: usize) -> usize
     ensures value { result ≡ behind_put room.old at (decimal n) }
     ensures room_after { room.new ≡ room_with room.old at (decimal n) }

@@ -3,53 +3,32 @@
 // The byte past the end of a part is 0.
 #![tactic(auto)]
 
-ghost use Rattle.std.specs.Prelude.{◌≡◌, length, get_or};
+ghost use Rattle.std.specs.Prelude.{◌≡◌, get_or};
 ghost use Rattle.ground.specs.Lists.{agree, same_list};
 
 // The byte at i, and 0 past the end.
 pub fn byte_at(part: &[u8], i: usize) -> u8
     ensures { result ≡ get_or part.now i 0 }
 {
-    if i < part.len() { part[i] } else { 0 }
+    part.get(i).copied().unwrap_or(0)
 }
 
-// How many bytes at the head of a part are those wanted.
+// How many bytes at the head of a part are those wanted. Both are cut to one length first, so that each turn tests one end.
 pub fn count_same(part: &[u8], want: &[u8]) -> usize
     ensures { result ≡ agree want.now part.now }
 {
-    let mut i = 0;
-    while i < want.len() {
-        if i >= part.len() {
-            return i;
-        }
-        if part[i] != want[i] {
-            return i;
-        }
-        i += 1;
-    }
-    i
-}
-
-// The same as is_same, of parts of one length: with no way out of the loop it takes many bytes at a time.
-fn is_equal(part: &[u8], want: &[u8]) -> bool
-    requires { length part.now ≡ length want.now }
-    ensures { result ≡ same_list part.now want.now }
-{
-    let mut difference = 0u8;
-    let mut i = 0;
-    while i < want.len() {
-        difference = difference | (part[i] ^ want[i]);
-        i += 1;
-    }
-    difference == 0
+    let n = part.len().min(want.len());
+    part[..n]
+        .iter()
+        .zip(&want[..n])
+        .take_while(|(p, w)| p == w)
+        .count()
 }
 
 // Whether two parts are the same.
+#[tactic(auto, using(ground::proofs::Lists::same_pairs))]
 pub fn is_same(part: &[u8], want: &[u8]) -> bool
     ensures { result ≡ same_list part.now want.now }
 {
-    if part.len() != want.len() {
-        return false;
-    }
-    is_equal(part, want)
+    part == want
 }

@@ -3,32 +3,17 @@
 // What does not fit is not put at all, and the answer is then the place that was given.
 #![tactic(auto)]
 
-ghost use Rattle.std.specs.Prelude.{◌≡◌, [], ◌∷◌, leb, ◌+◌, ◌≤◌, length, replicate};
-ghost use Rattle.std.proofs.lemmas.List.Edits.{sets};
+ghost use Rattle.std.specs.Prelude.{◌≡◌, [], ◌∷◌, leb, ◌+◌, length, replicate};
 ghost use Rattle.ground.specs.Rooms.{room_with, behind_put};
 
 // Whether so many bytes fit from `at` on into a room of this size.
 fn fits(size: usize, at: usize, count: usize) -> bool
     ensures { result ≡ leb (at + count) size }
 {
-    if size < count {
-        return false;
-    }
-    at <= size - count
+    count <= size && at <= size - count
 }
 
-// The same as put, of bytes that fit.
-fn copy(room: &mut [u8], at: usize, source: &[u8])
-    requires { at + length source.now ≤ length room.old }
-    ensures { room.new ≡ sets room.old at source.now }
-{
-    let mut i = 0;
-    while i < source.len() {
-        room[at + i] = source[i];
-        i += 1;
-    }
-}
-
+#[tactic(auto, using(ground::proofs::Stores::lent_part_back), unfolding(ground::specs::Rooms::room_with, ground::specs::Rooms::behind_put))]
 pub fn put(room: &mut [u8], at: usize, source: &[u8]) -> usize
     ensures value { result ≡ behind_put room.old at source.now }
     ensures room_after { room.new ≡ room_with room.old at source.now }
@@ -36,10 +21,12 @@ pub fn put(room: &mut [u8], at: usize, source: &[u8]) -> usize
     if !fits(room.len(), at, source.len()) {
         return at;
     }
-    copy(room, at, source);
-    at + source.len()
+    let end = at + source.len();
+    room[at..end].copy_from_slice(source);
+    end
 }
 
+#[tactic(auto, unfolding(ground::specs::Rooms::room_with, ground::specs::Rooms::behind_put))]
 pub fn put_byte(room: &mut [u8], at: usize, byte: u8) -> usize
     ensures value { result ≡ behind_put room.old at (byte ∷ []) }
     ensures room_after { room.new ≡ room_with room.old at (byte ∷ []) }
@@ -51,19 +38,17 @@ pub fn put_byte(room: &mut [u8], at: usize, byte: u8) -> usize
     at + 1
 }
 
-// The same as fill, of bytes that fit.
-fn fill_run(room: &mut [u8], at: usize, count: usize, byte: u8)
-    requires { at + count ≤ length room.old }
-    ensures { room.new ≡ sets room.old at (replicate count byte) }
+// Stores one byte all over a part. A slice's own `fill` stores its last byte by itself, which costs ten instructions more a call.
+fn fill_part(part: &mut [u8], byte: u8)
+    ensures { part.new ≡ replicate (length part.old) byte }
 {
-    let mut i = 0;
-    while i < count {
-        room[at + i] = byte;
-        i += 1;
+    for x in part.iter_mut() {
+        *x = byte;
     }
 }
 
 // Puts one byte so many times.
+#[tactic(auto, using(ground::proofs::Stores::lent_part_back), unfolding(ground::specs::Rooms::room_with, ground::specs::Rooms::behind_put))]
 pub fn fill(room: &mut [u8], at: usize, count: usize, byte: u8) -> usize
     ensures value { result ≡ behind_put room.old at (replicate count byte) }
     ensures room_after { room.new ≡ room_with room.old at (replicate count byte) }
@@ -71,6 +56,7 @@ pub fn fill(room: &mut [u8], at: usize, count: usize, byte: u8) -> usize
     if !fits(room.len(), at, count) {
         return at;
     }
-    fill_run(room, at, count, byte);
-    at + count
+    let end = at + count;
+    fill_part(&mut room[at..end], byte);
+    end
 }

@@ -20,10 +20,11 @@ use Rattle.card.specs.Places.{places}
 use Rattle.frame.specs.declared.Front.{Front}
 use Rattle.frame.specs.Checks.{front_of, Framed}
 use Rattle.lookup.proofs.Tells.{same_refusal}
+use Rattle.std.specs.Prelude.{Result, Ok, Err}
 use Rattle.host.specs.declared.asking.Command.{Command}
 use Rattle.host.specs.declared.asking.Asked.{Asked}
 use Rattle.host.specs.Hosting.{is_command, is_reading, offset_of, count_of, template_bytes, accepts, reply}
-use Rattle.host.specs.Steps.{unfit, command_of, declined, range_of, asked_of, reply_of}
+use Rattle.host.specs.Steps.{command_of, declined, range_of, asked_by, asked_of, reply_of}
 use Rattle.host.proofs.Opens.{extent, end_is}
 
 -- ---- a range of the template
@@ -67,12 +68,11 @@ module _ (s : List ℕ) (f : Framed s (end_of s)) (o n : ℕ) where
 -- ---- the answer
 module _ (e : Edition) (s cmd : List ℕ) where
   reply-is : reply_of s (asked_of e s cmd) ≡ reply e s cmd
-  unfolding asked_of command_of reply gate
+  unfolding asked_of asked_by command_of reply gate
   reply-is = go (is_command cmd) (is_reading cmd) (accepts e s) refl
     where
       go : (p q r : Bool) → accepts e s ≡ r
-          → (let c = gate p (unfit 0x67) (gate q (unfit 0x6D) (record { status = 0; offset = offset_of cmd; count = count_of cmd })) in
-          reply_of s (gate (eqb c.status 0) (declined c.status) (gate r (declined 0x69) (range_of c.offset c.count (end_of s)))))
+          → reply_of s (asked_by r s (gate p (Err 0x67) (gate q (Err 0x6D) (Ok (record { offset = offset_of cmd; count = count_of cmd })))))
           ≡ gate p (0x67 ∷ 0x00 ∷ []) (gate q (0x6D ∷ 0x00 ∷ []) (gate r (0x69 ∷ 0x00 ∷ [])
           (gate (leb (offset_of cmd + count_of cmd) (length (template_bytes s))) (0x6A ∷ 0x00 ∷ []) (take (count_of cmd) (drop (offset_of cmd) (template_bytes s)) ++ (0x90 ∷ 0x00 ∷ [])))))
       go false q r h = refl
@@ -95,26 +95,26 @@ reply_long s a h =
     simp (length-append, part) (omega arith)
 
 -- ---- what is asked, by the pieces
-module _ (e : Edition) (s cmd : List ℕ) (p : Command) (parsed : p ≡ command_of cmd) where
-  pub asked_unfit : (p.status ≡ 0 → ⊥) → declined p.status ≡ asked_of e s cmd
-  unfolding asked_of gate
-  asked_unfit h = rw (← parsed, ne_eqb p.status 0 h)
+module _ (e : Edition) (s cmd : List ℕ) (p : Result Command ℕ) (parsed : p ≡ command_of cmd) where
+  pub asked_unfit : (status : ℕ) → p ≡ Err status → declined status ≡ asked_of e s cmd
+  unfolding asked_of asked_by
+  asked_unfit status h = rw (← parsed, h)
 
-  module _ (fit : p.status ≡ 0) (t : Places) (is : t ≡ places e s) where
+  module _ (c : Command) (fit : p ≡ Ok c) (t : Places) (is : t ≡ places e s) where
     number : t.refusal.number ≡ (reading e s).refusal.number
     number = ap (λ (x : Places). x.refusal.number) is ∙ ap (λ (x : Refusal). x.number) (same_refusal e s)
 
     pub asked_refused : (t.refusal.number ≡ 0 → ⊥) → declined 0x69 ≡ asked_of e s cmd
-    unfolding asked_of gate
-    asked_refused h = rw (← parsed, eq-eqb p.status 0 fit, ← number, ne_eqb t.refusal.number 0 h)
+    unfolding asked_of asked_by gate
+    asked_refused h = rw (← parsed, fit, ← number, ne_eqb t.refusal.number 0 h)
 
     module _ (accepted : t.refusal.number ≡ 0) (front : Front) (ends : front ≡ front_of none s) where
       end : front.end ≡ end_of s
       end = end_is e s (sym number ∙ accepted) front ends
 
-      pub asked_range : range_of p.offset p.count front.end ≡ asked_of e s cmd
-      unfolding asked_of gate
-      asked_range = rw (end, ← parsed, eq-eqb p.status 0 fit, ← number, eq-eqb t.refusal.number 0 accepted)
+      pub asked_range : range_of c.offset c.count front.end ≡ asked_of e s cmd
+      unfolding asked_of asked_by gate
+      asked_range = rw (end, ← parsed, fit, ← number, eq-eqb t.refusal.number 0 accepted)
 
-      pub asked_inside : (range_of p.offset p.count front.end).start + (range_of p.offset p.count front.end).count ≤ length s
-      asked_inside = rw end (range_inside s (extent e s (sym number ∙ accepted)) p.offset p.count)
+      pub asked_inside : (range_of c.offset c.count front.end).start + (range_of c.offset c.count front.end).count ≤ length s
+      asked_inside = rw end (range_inside s (extent e s (sym number ∙ accepted)) c.offset c.count)

@@ -1,14 +1,13 @@
 // What is asked: the command taken apart, the image read, the range found.
 ghost use Rattle.std.specs.Prelude.{◌≡◌, ◌+◌, ◌*◌, ◌≤◌, length};
-ghost use Rattle.host.specs.Steps.{unfit, command_of, declined, range_of, asked_of};
+ghost use Rattle.host.specs.Steps.{command_of, declined, range_of, asked_of};
 
 use card::Refusal;
 use edition::Edition;
 
-// What a command says: status 0 and the range, or the first byte of the two that decline it.
+// The range that a command asks for.
 #[derive(Clone, Copy)]
 struct Command {
-    status: u8,
     offset: u16,
     count: u8,
 }
@@ -27,35 +26,24 @@ fn word(high: u8, low: u8) -> u16
     high as u16 * 256 + low as u16
 }
 
-fn misfit(status: u8) -> Command
-    ensures { result ≡ unfit status }
-{
-    Command {
-        status,
-        offset: 0,
-        count: 0,
-    }
-}
-
-// '6700', then '6D00'.
-fn parse(command: &[u8]) -> Command
+// The range, or the first byte of the two that decline the command: '6700', then '6D00'.
+fn parse(command: &[u8]) -> Result<Command, u8>
     ensures { result ≡ command_of command.now }
 {
     if command.len() != 5 {
-        return misfit(0x67);
+        return Err(0x67);
     }
     let count = command[4];
     if count == 0 {
-        return misfit(0x67);
+        return Err(0x67);
     }
     if !((command[0] == 0x00) & (command[1] == 0xB0)) {
-        return misfit(0x6D);
+        return Err(0x6D);
     }
-    Command {
-        status: 0,
+    Ok(Command {
         offset: word(command[2], command[3]),
         count,
-    }
+    })
 }
 
 fn decline(status: u8) -> Asked
@@ -88,11 +76,10 @@ pub(crate) fn ask(edition: Edition, image: &[u8], command: &[u8]) -> Asked
     ensures value { result ≡ asked_of edition image.now command.now }
     ensures count_in_bounds { result.start + result.count ≤ length image.now }
 {
-    let parsed = parse(command);
-    let status = parsed.status;
-    if status != 0 {
-        return decline(status);
-    }
+    let parsed = match parse(command) {
+        Ok(parsed) => parsed,
+        Err(status) => return decline(status),
+    };
     let table = reader_places::places(edition, image);
     let refusal = table.refusal;
     if refusal.number != 0 {

@@ -6,76 +6,73 @@
 ghost use Rattle.std.specs.Prelude.{◌≡◌};
 ghost use Rattle.lengths.specs.Lengths.{behind81, behind82, length_read, length_told};
 
-use lengths::{Length, ToldLength};
+use lengths::{Field, FieldError, ToldLength};
 
-fn refused(number: u8) -> ToldLength
-    ensures { result ≡ record { number = number; length = 0; used = 0 } }
+// The answer in numbers.
+pub fn told(answer: Result<Field, FieldError>) -> ToldLength
+    ensures { result ≡ length_told answer }
 {
-    ToldLength {
-        number,
-        length: 0,
-        used: 0,
-    }
-}
-
-pub fn told(field: Length) -> ToldLength
-    ensures { result ≡ length_told field }
-{
-    match field {
-        Length::Read(length, used) => ToldLength {
+    match answer {
+        Ok(field) => ToldLength {
             number: 0,
-            length,
-            used,
+            length: field.length,
+            used: field.used,
         },
-        Length::Other => refused(70),
-        Length::Cut => refused(71),
-        Length::Long => refused(72),
+        Err(e) => ToldLength {
+            number: e.number(),
+            length: 0,
+            used: 0,
+        },
     }
 }
 
-fn read_behind81(rest: &[u8]) -> Length
+fn read_behind81(rest: &[u8]) -> Result<Field, FieldError>
     ensures { result ≡ behind81 rest.now }
 {
-    if rest.len() < 1 {
-        return Length::Cut;
-    }
-    let low = rest[0];
+    let low = *rest.first().ok_or(FieldError::Cut)?;
     if low <= 127 {
-        return Length::Long;
+        return Err(FieldError::Long);
     }
-    Length::Read(low as u16, 2)
+    Ok(Field {
+        length: low as u16,
+        used: 2,
+    })
 }
 
-fn read_behind82(rest: &[u8]) -> Length
+fn read_behind82(rest: &[u8]) -> Result<Field, FieldError>
     ensures { result ≡ behind82 rest.now }
 {
     if rest.len() < 2 {
-        return Length::Cut;
+        return Err(FieldError::Cut);
     }
     let high = rest[0];
     if high == 0 {
-        return Length::Long;
+        return Err(FieldError::Long);
     }
     let low = rest[1];
-    Length::Read(high as u16 * 256 + low as u16, 3)
+    Ok(Field {
+        length: high as u16 * 256 + low as u16,
+        used: 3,
+    })
 }
 
 // The length field at the head of some bytes.
-pub fn read_length(bytes: &[u8]) -> Length
-    ensures { length_told result ≡ length_told (length_read bytes.now) }
+#[tactic(auto, unfolding(lengths::specs::Lengths::length_read))]
+pub fn read_length(bytes: &[u8]) -> Result<Field, FieldError>
+    ensures { result ≡ length_read bytes.now }
 {
-    if bytes.len() < 1 {
-        return Length::Cut;
+    let (first, rest) = bytes.split_first().ok_or(FieldError::Cut)?;
+    if *first <= 127 {
+        return Ok(Field {
+            length: *first as u16,
+            used: 1,
+        });
     }
-    let first = bytes[0];
-    if first <= 127 {
-        return Length::Read(first as u16, 1);
+    if *first == 0x81 {
+        return read_behind81(rest);
     }
-    if first == 0x81 {
-        return read_behind81(&bytes[1..]);
+    if *first == 0x82 {
+        return read_behind82(rest);
     }
-    if first == 0x82 {
-        return read_behind82(&bytes[1..]);
-    }
-    Length::Other
+    Err(FieldError::Other)
 }

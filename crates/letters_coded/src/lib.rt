@@ -24,21 +24,18 @@ pub fn from_utf8(text: &[u8], room: &mut [u8]) -> Turned
     let mut taken = 0;
     let mut made = 0;
     let mut begun = 0;
-    let mut at = 0;
-    while at < text.len() {
-        let x = text[at];
-        let byte = letter_codes::byte_for(begun, x);
-        at += 1;
+    for (at, x) in text.iter().enumerate() {
+        let byte = letter_codes::byte_for(begun, *x);
         if made >= room.len() {
             return Turned { taken, made };
         }
         if byte != 0 {
             room[made] = byte;
             made += 1;
-            taken = at;
+            taken = at + 1;
             begun = 0;
-        } else if (begun == 0) & is_first(x) {
-            begun = x;
+        } else if (begun == 0) & is_first(*x) {
+            begun = *x;
         } else {
             return Turned { taken, made };
         }

@@ -6,17 +6,10 @@
 ghost use Rattle.std.specs.Prelude.{◌≡◌, length};
 ghost use Rattle.std.proofs.lemmas.List.Edits.{sets};
 ghost use Rattle.ground.specs.Rooms.{room_with, behind_put};
-ghost use Rattle.letters.specs.Letters.{first_of, letter, utf8};
+ghost use Rattle.letters.specs.Letters.{letter, utf8};
 ghost use Rattle.letters.specs.Turning.{spelled, spelled_answer};
 
 use letters::Turned;
-
-// The first byte of a letter that has two in UTF-8.
-fn first_of(b: u8) -> u8
-    ensures { result ≡ first_of b }
-{
-    letter_bytes::pick(b == 0x40, 0xC2, 0xC3)
-}
 
 // Puts the letter of a byte that has one.
 fn put_letter(room: &mut [u8], at: usize, b: u8) -> usize
@@ -27,7 +20,7 @@ fn put_letter(room: &mut [u8], at: usize, b: u8) -> usize
     if second == 0 {
         return ground_room::put_byte(room, at, b);
     }
-    ground_room::put(room, at, &[first_of(b), second])
+    ground_room::put(room, at, &[letter_bytes::first_of(b), second])
 }
 
 // Puts the letters of some bytes at the start of the room, up to the first that has none or that no room is left for.
@@ -35,19 +28,19 @@ pub fn to_utf8(bytes: &[u8], room: &mut [u8]) -> Turned
     ensures value { result ≡ spelled_answer room.old bytes.now }
     ensures room_after { room.new ≡ sets room.old 0 (utf8 (spelled (length room.old) bytes.now)) }
 {
-    let mut taken = 0;
     let mut made = 0;
-    while taken < bytes.len() {
-        let b = bytes[taken];
-        if !letter_bytes::has_letter(b) {
+    for (taken, b) in bytes.iter().enumerate() {
+        if !letter_bytes::has_letter(*b) {
             return Turned { taken, made };
         }
-        let end = put_letter(room, made, b);
+        let end = put_letter(room, made, *b);
         if end == made {
             return Turned { taken, made };
         }
         made = end;
-        taken += 1;
     }
-    Turned { taken, made }
+    Turned {
+        taken: bytes.len(),
+        made,
+    }
 }

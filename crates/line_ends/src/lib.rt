@@ -11,14 +11,15 @@ pub fn find(text: &[u8], at: usize, byte: u8) -> usize
     ensures value { result ≡ at + before byte (drop at text.now) }
     ensures lower_bound { (at ≤ result) × (at ≤ length text.now → result ≤ length text.now) }
 {
-    let mut end = at;
-    while end < text.len() {
+    if at > text.len() {
+        return at;
+    }
+    for end in at..text.len() {
         if text[end] == byte {
             return end;
         }
-        end += 1;
     }
-    end
+    text.len()
 }
 
 // Where the line that starts at `at` ends: at its line feed, or where the text ends.

@@ -11,14 +11,12 @@ ghost use Rattle.card_lines.specs.Lines.{without_return, trimmed};
 fn count_blanks(line: &[u8]) -> usize
     ensures { result ≡ leading (eqb 0x20) line.now }
 {
-    let mut i = 0;
-    while i < line.len() {
-        if b' ' != line[i] {
+    for (i, byte) in line.iter().enumerate() {
+        if *byte != b' ' {
             return i;
         }
-        i += 1;
     }
-    i
+    line.len()
 }
 
 // A line without a carriage return at its end.

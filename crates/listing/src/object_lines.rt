@@ -43,11 +43,8 @@ pub(crate) fn put_objects(room: &mut [u8], at: usize, content: Record) -> usize
     ensures upper_bound { result ≤ at + 16 * 32 }
 {
     let mut place = at;
-    let mut i = 0;
-    while i < 16 {
-        let item = content.objects[i];
-        place = put_object(room, place, edition_tags::tag_of(i), item);
-        i += 1;
+    for (i, item) in content.objects.iter().enumerate() {
+        place = put_object(room, place, edition_tags::tag_of(i), *item);
     }
     place
 }

@@ -10,7 +10,7 @@ use lib.Dec.{eqb, leb}
 use borrow.Author.Tests.{eqb-true}
 use Rattle.rules.specs.declared.Rule.{Rule}
 use Rattle.rules.specs.declared.Rule.TheVariants.{Digits, Text, Lead, Code, Birth, Expiry, Raw, NotD}
-use Rattle.rules.specs.declared.Verdict.TheVariants.{Takes}
+use Rattle.std.specs.Prelude.{Ok}
 use Rattle.ground.specs.Lists.{leading, among}
 use Rattle.rules.specs.Values.{is_text, takes, two, holds, judged}
 use Rattle.ground.proofs.Lists.{true_false, and_left, and_right, leading_before}
@@ -75,7 +75,7 @@ abbrev Plain : Rule → Type 0
 Plain o = (o ≡ Raw → ⊥) × (o ≡ NotD → ⊥)
 
 pub record Chosen (i : Rule) (f r m : ℕ) : Type 0 where
-  pub taken : judged i (run f r m) ≡ Takes
+  pub taken : judged i (run f r m) ≡ Ok tt
   pub outer : (o : Rule) → Plain o → takes o f ≡ true → holds o (run f r m) ≡ true → (b : Bool) → numbers_in b (number_of i) (number_of o) ≡ true
 
 digits_chosen : (m : ℕ) → Chosen Digits 0x32 0x32 m
@@ -227,7 +227,7 @@ head_taken : (t : ℕ → Bool) (f : ℕ) (v : List ℕ) → length (f ∷ v) �
 head_taken t f v h = leading_before t 0 (f ∷ v) 0 (omega arith)
 
 -- an outer rule that is not wide enough does not take the sample
-not_taken : (i o : Rule) (s : ℕ) → Formed i s → Plain o → rule_in s i o ≡ false → judged o (run (first_of i) (rest_of i) (shortest_of s - 1)) ≡ Takes → ⊥
+not_taken : (i o : Rule) (s : ℕ) → Formed i s → Plain o → rule_in s i o ≡ false → judged o (run (first_of i) (rest_of i) (shortest_of s - 1)) ≡ Ok tt → ⊥
 not_taken i o s h n out e =
     let c : Chosen i (first_of i) (rest_of i) (shortest_of s - 1) = chosen i s h in
     let t = taken_means o (run (first_of i) (rest_of i) (shortest_of s - 1)) e in
@@ -247,8 +247,8 @@ unless true h = refl
 unless false h = absurd (true_false refl h)
 
 pub record Shown (i o : Rule) (v : List ℕ) : Type 0 where
-  pub inner : judged i v ≡ Takes
-  pub outer : judged o v ≡ Takes → ⊥
+  pub inner : judged i v ≡ Ok tt
+  pub outer : judged o v ≡ Ok tt → ⊥
 
 d_text : Shown Text NotD (0x44 ∷ [])
 unfolding judged leading holds is_text among

@@ -8,7 +8,7 @@ use lib.ListN.{length, get_or}
 use lib.Dec.{eqb}
 use Rattle.rules.specs.declared.Rule.{Rule}
 use Rattle.rules.specs.declared.Rule.TheVariants.{Digits, Text, Lead, Code, Birth, Expiry, Raw, NotD}
-use Rattle.rules.specs.declared.Verdict.TheVariants.{Takes}
+use Rattle.std.specs.Prelude.{Ok}
 use Rattle.ground.specs.Lists.{leading}
 use Rattle.edition.specs.Sets.{permitted}
 use Rattle.rules.specs.Values.{is_digit, is_text, by_class, takes, is_lead, is_code, is_birth, is_expiry, is_not_d, two, by_sense, holds, judged}
@@ -80,7 +80,7 @@ wider_holds i o v =
     (is_expiry (length v) (two (get_or v 0 0) (get_or v 1 0)))
     (is_not_d (length v) (get_or v 0 0))
 
-wider_judged : (i o : Rule) (v : List ℕ) → wider i o ≡ true → judged i v ≡ Takes → judged o v ≡ Takes
+wider_judged : (i o : Rule) (v : List ℕ) → wider i o ≡ true → judged i v ≡ Ok tt → judged o v ≡ Ok tt
 wider_judged i o v h t =
     let m = taken_means i v t in
     means_taken o v
@@ -127,17 +127,17 @@ rules_wider single i o n h =
     rw n at both
 
 -- ---- within the rule that leaves D out: what has digits alone is never D, and text of other lengths than 1 neither
-text_by : (i : Rule) (v : List ℕ) → wider i Text ≡ true → judged i v ≡ Takes → judged Text v ≡ Takes
+text_by : (i : Rule) (v : List ℕ) → wider i Text ≡ true → judged i v ≡ Ok tt → judged Text v ≡ Ok tt
 text_by i v = wider_judged i Text v
 
-left_by : (i : Rule) (v : List ℕ) → wider i Text ≡ true → (judged i (0x44 ∷ []) ≡ Takes → ⊥) → judged i v ≡ Takes → judged NotD v ≡ Takes
+left_by : (i : Rule) (v : List ℕ) → wider i Text ≡ true → (judged i (0x44 ∷ []) ≡ Ok tt → ⊥) → judged i v ≡ Ok tt → judged NotD v ≡ Ok tt
 left_by i v w d t = (not_d_means v).1 (text_by i v w t, λ e. d (rw e at t))
 
-long_by : (s : ℕ) (i : Rule) (v : List ℕ) → wider i Text ≡ true → permitted s 1 ≡ false → permitted s (length v) ≡ true → judged i v ≡ Takes → judged NotD v ≡ Takes
+long_by : (s : ℕ) (i : Rule) (v : List ℕ) → wider i Text ≡ true → permitted s 1 ≡ false → permitted s (length v) ≡ true → judged i v ≡ Ok tt → judged NotD v ≡ Ok tt
 long_by s i v w none p t = (not_d_means v).1 (text_by i v w t, λ e. true_false (rw e at p) none)
 
 -- a value that is outside the characters is not taken
-outside_not : (i : Rule) → takes i 0x44 ≡ false → judged i (0x44 ∷ []) ≡ Takes → ⊥
+outside_not : (i : Rule) → takes i 0x44 ≡ false → judged i (0x44 ∷ []) ≡ Ok tt → ⊥
 unfolding leading
 outside_not i f e =
     let m : 1 ≤ leading (takes i) (0x44 ∷ []) = (taken_means i (0x44 ∷ []) e).0 in
@@ -148,7 +148,7 @@ unless : (b : Bool) → (not b && true) ≡ true → b ≡ false
 unless true h = absurd (true_false h refl)
 unless false h = refl
 
-left_sound : (s : ℕ) (i : Rule) → rule_in s i NotD ≡ true → (v : List ℕ) → permitted s (length v) ≡ true → judged i v ≡ Takes → judged NotD v ≡ Takes
+left_sound : (s : ℕ) (i : Rule) → rule_in s i NotD ≡ true → (v : List ℕ) → permitted s (length v) ≡ true → judged i v ≡ Ok tt → judged NotD v ≡ Ok tt
 unfolding numbers_in characters_test sense_test
 left_sound s Digits h v p t = left_by Digits v refl (outside_not Digits refl) t
 left_sound s Text h v p t = long_by s Text v refl (unless (permitted s 1) h) p t
@@ -159,7 +159,7 @@ left_sound s Expiry h v p t = left_by Expiry v refl (outside_not Expiry refl) t
 left_sound s Raw h v p t = absurd (true_false (and_right (not (permitted s 1)) false h) refl)
 left_sound s NotD h v p t = t
 
-pub rule_sound : (s : ℕ) (i o : Rule) → rule_in s i o ≡ true → (v : List ℕ) → permitted s (length v) ≡ true → judged i v ≡ Takes → judged o v ≡ Takes
+pub rule_sound : (s : ℕ) (i o : Rule) → rule_in s i o ≡ true → (v : List ℕ) → permitted s (length v) ≡ true → judged i v ≡ Ok tt → judged o v ≡ Ok tt
 rule_sound s i Digits h v p t = wider_judged i Digits v (rules_wider (permitted s 1) i Digits refl h) t
 rule_sound s i Text h v p t = wider_judged i Text v (rules_wider (permitted s 1) i Text refl h) t
 rule_sound s i Lead h v p t = wider_judged i Lead v (rules_wider (permitted s 1) i Lead refl h) t

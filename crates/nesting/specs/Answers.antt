@@ -3,7 +3,7 @@ use Rattle.std.specs.Prelude.{ℕ, suc, ◌≡◌, true, false, List, ◌∷◌,
 use Rattle.edition.specs.declared.Row.{Row}
 use Rattle.edition.specs.declared.Edition.{Edition}
 use Rattle.edition.specs.declared.Formed.TheVariants.{Well}
-use Rattle.rules.specs.declared.Verdict.TheVariants.{Takes}
+use Rattle.std.specs.Prelude.{Ok}
 use Rattle.edition.specs.Sets.{permitted}
 use Rattle.edition.specs.Rows.{formed_of}
 use Rattle.rules.specs.Values.{judged}
@@ -17,13 +17,13 @@ Shorter i o = (n : ℕ) → permitted i.lengths n ≡ true → permitted o.lengt
 
 -- whatever value of an inner length the inner rule takes, the outer takes
 abbrev pub Wider : Row → Row → Type 0
-Wider i o = (v : List ℕ) → permitted i.lengths (length v) ≡ true → judged i.rule v ≡ Takes → judged o.rule v ≡ Takes
+Wider i o = (v : List ℕ) → permitted i.lengths (length v) ≡ true → judged i.rule v ≡ Ok tt → judged o.rule v ≡ Ok tt
 
 -- a value of an inner length that the inner rule takes and the outer does not
 pub record Against (i o : Row) (v : List ℕ) : Type 0 where
   pub permitted : permitted i.lengths (length v) ≡ true
-  pub inner : judged i.rule v ≡ Takes
-  pub outer : judged o.rule v ≡ Takes → ⊥
+  pub inner : judged i.rule v ≡ Ok tt
+  pub outer : judged o.rule v ≡ Ok tt → ⊥
 
 -- the first clause that fails of a row: a length that shows it, a value that shows it, or an object that only the outer requires
 pub data Fails (i o : Row) : ℕ → Type 0 where

@@ -1,5 +1,5 @@
 -- The decision of nesting: of two rows the first clause that fails, of two editions the first such row; and a value for a clause of values.
-use Rattle.std.specs.Prelude.{ℕ, suc, ◌-◌, Bool, true, false, cond, not, ◌&&◌, ◌||◌, List, [], ◌∷◌, eqb, replicate}
+use Rattle.std.specs.Prelude.{ℕ, suc, ◌-◌, Bool, true, false, cond, not, ◌&&◌, ◌||◌, List, [], ◌∷◌, eqb, get_or, replicate}
 use Rattle.std.specs.Int.Bits.{bit_and}
 use Rattle.rules.specs.declared.Rule.{Rule}
 use Rattle.rules.specs.declared.Rule.TheVariants.{Digits, Text, Lead, Code, Birth, Expiry, Raw, NotD}
@@ -21,6 +21,13 @@ number_of Birth = 4
 number_of Expiry = 5
 number_of Raw = 6
 number_of NotD = 7
+
+-- the rules before the last, by their numbers
+abbrev pub rules : List Rule
+rules = Digits ∷ Text ∷ Lead ∷ Code ∷ Birth ∷ Expiry ∷ Raw ∷ []
+
+abbrev pub rule_of : ℕ → Rule
+rule_of n = get_or rules n NotD
 
 -- the same rule; all but raw within text; lead, birth and expiry within digits; within text other than the single D what has digits alone,
 -- and text and code where the length 1 is not permitted

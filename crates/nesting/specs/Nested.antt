@@ -3,7 +3,7 @@ use Rattle.std.specs.Prelude.{ℕ, ◌≡◌, true, List, [], ◌∷◌, length}
 use Rattle.edition.specs.declared.Row.{Row}
 use Rattle.edition.specs.declared.Edition.{Edition}
 use Rattle.edition.specs.declared.Formed.TheVariants.{Well}
-use Rattle.rules.specs.declared.Verdict.TheVariants.{Takes}
+use Rattle.std.specs.Prelude.{Ok}
 use Rattle.edition.specs.Sets.{permitted}
 use Rattle.rules.specs.Values.{judged}
 use Rattle.edition.specs.Rows.{formed_of}
@@ -11,7 +11,7 @@ use Rattle.edition.specs.Rows.{formed_of}
 -- each inner length is an outer one; whatever value of an inner length the inner rule takes, the outer takes; what the outer requires the inner requires
 pub record Within (inner outer : Row) : Type 0 where
   pub shorter : (n : ℕ) → permitted inner.lengths n ≡ true → permitted outer.lengths n ≡ true
-  pub takes : (v : List ℕ) → permitted inner.lengths (length v) ≡ true → judged inner.rule v ≡ Takes → judged outer.rule v ≡ Takes
+  pub takes : (v : List ℕ) → permitted inner.lengths (length v) ≡ true → judged inner.rule v ≡ Ok tt → judged outer.rule v ≡ Ok tt
   pub asks : outer.required ≡ true → inner.required ≡ true
 
 pub data NestedRows : List Row → List Row → Type 0 where

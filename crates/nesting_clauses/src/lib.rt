@@ -7,7 +7,8 @@ ghost use Rattle.std.specs.Prelude.{◌≡◌};
 ghost use Rattle.nesting.specs.Decision.{clause_of};
 
 use edition::Row;
-use nesting_rules::{number_of, numbers_in, pick};
+use ground_pick::pick;
+use nesting_rules::{number_of, numbers_in};
 
 pub fn clause_of(inner: Row, outer: Row) -> u8
     ensures { result ≡ clause_of inner outer }

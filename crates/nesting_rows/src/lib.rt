@@ -12,15 +12,11 @@ use nesting::Nesting;
 pub fn rows_nested(inner: [Row; 17], outer: [Row; 17]) -> Nesting
     ensures { result ≡ nesting_from 0 inner outer }
 {
-    let mut k: usize = 0;
-    while k < 17 {
-        let i = inner[k];
-        let o = outer[k];
-        let clause = nesting_clauses::clause_of(i, o);
+    for (k, (i, o)) in inner.iter().zip(outer.iter()).enumerate() {
+        let clause = nesting_clauses::clause_of(*i, *o);
         if clause != 0 {
             return Nesting { clause, row: k };
         }
-        k += 1;
     }
     Nesting { clause: 0, row: 17 }
 }

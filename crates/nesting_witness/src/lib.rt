@@ -7,8 +7,9 @@ ghost use Rattle.std.specs.Prelude.{◌≡◌};
 ghost use Rattle.nesting.specs.Decision.{by_name, witness_of};
 
 use edition::Row;
+use ground_pick::pick;
 use nesting::Sample;
-use nesting_rules::{number_of, pick};
+use nesting_rules::number_of;
 use rules::Rule;
 
 // A byte for each rule.

@@ -20,11 +20,9 @@ pub fn lengths_of(bytes: &[u8]) -> [u8; 16]
     if bytes.len() != 479 {
         return lengths;
     }
-    let mut i: usize = 0;
-    while i < 16 {
+    for i in 0..16 {
         let at = 14 + i * 29;
         lengths[i] = bytes[at];
-        i += 1;
     }
     lengths
 }
@@ -44,10 +42,8 @@ pub fn size_of(lengths: [u8; 16]) -> usize
     ensures value { result ≡ size_of lengths }
 {
     let mut size = 0;
-    let mut i: usize = 0;
-    while i < 16 {
-        size += size_with(lengths[i]);
-        i += 1;
+    for n in &lengths {
+        size += size_with(*n);
     }
     size
 }

@@ -11,11 +11,11 @@ use lib.ListN.{length, get_or, take, drop, length-append, length-drop, drop_of_l
 use lib.Seq.{drop-cons, take_all, length-take-le, drop-append_seam}
 use Rattle.rules.specs.declared.Rule.{Rule}
 use Rattle.edition.specs.declared.Row.{Row}
-use Rattle.rules.specs.declared.Verdict.{Verdict}
-use Rattle.rules.specs.declared.Verdict.TheVariants.{Takes, Outside, Breaks}
+use Rattle.std.specs.Prelude.{Option, Some, None, Result, Ok, Err}
+use Rattle.rules.specs.declared.Fault.TheVariants.{Outside, Breaks}
 use Rattle.ground.specs.Lists.{among}
 use Rattle.edition.specs.Sets.{permitted}
-use Rattle.rules.specs.Values.{judged, holds, verdict_told}
+use Rattle.rules.specs.Values.{Verdict, judged, holds, verdict_told}
 use Rattle.rules.specs.Kinds.{kind_table, within, judged_by}
 use Rattle.edition.specs.Rows.{tags, tag_of}
 use Rattle.ground.proofs.Lists.{true_false}
@@ -25,42 +25,40 @@ use Rattle.card.specs.declared.Refusal.{Refusal}
 use Rattle.card.specs.Refusals.{refuse, refuse_length}
 use Rattle.card.specs.Walk.{Seen, absent, there, wrong, weighed, object_at, passed, look}
 use Rattle.objects.specs.declared.Found.{Found}
-use Rattle.objects.specs.declared.Found.TheVariants.{Object, Refused}
-use Rattle.objects.specs.declared.Met.TheVariants.{Absent, There, Wrong}
+use Rattle.objects.specs.declared.Refused.{Refused}
+use Rattle.objects.specs.declared.Met.{Met}
 use Rattle.card.specs.Rules.{Entry}
 use Rattle.card.proofs.Walks.{View, left_out, found, amiss, view}
 use Rattle.edition.proofs.Sets.{never_0}
-use Rattle.objects.specs.Objects.{ToldFound, found_told, entry_at, object_by, look_by, found_of, valued, here, passed_over, with_ends, met_of}
+use Rattle.objects.specs.Objects.{ToldFound, found_told, found_at, refused_at, met_at, entry_at, object_by, look_by, found_of, valued, here, passed_over, with_ends, met_of}
 
 -- no two answers are told alike
-pub told_apart : (a b : Found) → found_told a ≡ found_told b → a ≡ b
-told_apart (Object k start n) (Object j start' n') e =
-    let row = ap (λ (t : ToldFound). t.row) e in
-    let begins = ap (λ (t : ToldFound). t.start) e in
-    let long = ap (λ (t : ToldFound). t.length) e in
-    cc
-told_apart (Object k start n) (Refused x place tag) e = absurd (true_false (ap (λ (t : ToldFound). t.refused) e) refl)
-told_apart (Refused x place tag) (Object k start n) e = absurd (true_false refl (ap (λ (t : ToldFound). t.refused) e))
-told_apart (Refused x place tag) (Refused x' place' tag') e =
-    let number = ap (λ (t : ToldFound). t.number) e in
-    let at = ap (λ (t : ToldFound). t.place) e in
-    let of = ap (λ (t : ToldFound). t.tag) e in
-    cc
+pub told_apart : (a b : Result Found Refused) → found_told a ≡ found_told b → a ≡ b
+told_apart (Ok f) (Ok g) e =
+    ap (λ (k : ℕ). Ok (found_at k f.start f.length)) (ap (λ (t : ToldFound). t.row) e)
+    ∙ ap (λ (start : ℕ). Ok (found_at g.row start f.length)) (ap (λ (t : ToldFound). t.start) e)
+    ∙ ap (λ (n : ℕ). Ok (found_at g.row g.start n)) (ap (λ (t : ToldFound). t.length) e)
+told_apart (Ok f) (Err y) e = absurd (true_false (ap (λ (t : ToldFound). t.refused) e) refl)
+told_apart (Err x) (Ok g) e = absurd (true_false refl (ap (λ (t : ToldFound). t.refused) e))
+told_apart (Err x) (Err y) e =
+    ap (λ (number : ℕ). Err (refused_at number x.place x.tag)) (ap (λ (t : ToldFound). t.number) e)
+    ∙ ap (λ (place : ℕ). Err (refused_at y.number place x.tag)) (ap (λ (t : ToldFound). t.place) e)
+    ∙ ap (λ (tag : ℕ). Err (refused_at y.number y.place tag)) (ap (λ (t : ToldFound). t.tag) e)
 
 -- the first byte outside a rule's characters lies within the value
 judged_within : (rule : Rule) (v : List ℕ) → (verdict_told (judged rule v)).index ≤ length v
 judged_within rule v = go (judged rule v) refl
   where
     go : (j : Verdict) → judged rule v ≡ j → (verdict_told j).index ≤ length v
-    go Takes e = omega arith
-    go (Outside i) e = le_of_lt (nine_means rule v i e).inside
-    go Breaks e = omega arith
+    go (Ok u) e = omega arith
+    go (Err (Outside i)) e = le_of_lt (nine_means rule v i e).inside
+    go (Err Breaks) e = omega arith
 
 pub index_within : (kinds : List ℕ) (rule : Rule) (v : List ℕ) → (verdict_told (judged_by kinds rule v)).index ≤ length v
 unfolding judged_by
 index_within kinds rule v = go (within kinds rule v) (holds rule v)
   where
-    go : (q h : Bool) → (verdict_told (cond q (cond h Takes Breaks) (judged rule v))).index ≤ length v
+    go : (q h : Bool) → (verdict_told (cond q (cond h (Ok tt) (Err Breaks)) (judged rule v))).index ≤ length v
     go true true = omega arith
     go true false = omega arith
     go false h = judged_within rule v
@@ -145,9 +143,9 @@ module _ (kinds : List ℕ) (k at : ℕ) (r : Row) where
 
   pub weighed_found : (v rest : List ℕ) (d : Verdict) → found_of k at (weighed (entry_at k r) (at + 2) v rest d) ≡ valued k (at + 2) (length v) d
   unfolding found_of weighed valued
-  weighed_found v rest Takes = refl
-  weighed_found v rest (Outside i) = refl
-  weighed_found v rest Breaks = refl
+  weighed_found v rest (Ok u) = refl
+  weighed_found v rest (Err (Outside i)) = refl
+  weighed_found v rest (Err Breaks) = refl
 
   -- its value, or a refusal, which its number, place and tag tell whole
   pub data Stands (l : List ℕ) : Seen → Type 0 where
@@ -164,9 +162,9 @@ module _ (kinds : List ℕ) (k at : ℕ) (r : Row) where
           (cond p (cond q (weighed (entry_at k r) (at + 2) (take n l) (drop n l) d) (wrong (refuse 8 at (tag_of k)))) (wrong (refuse_length (at + 1) (tag_of k) r.lengths)))
       go false e q f d = turned (refuse_length (at + 1) (tag_of k) r.lengths) refl (omega arith)
       go true e false f d = turned (refuse 8 at (tag_of k)) refl (omega arith)
-      go true e true f Takes = taken n e (omega (arith, leb-true n (length l) f))
-      go true e true f (Outside i) = turned (refuse 9 (at + 2 + i) (tag_of k)) refl (omega arith)
-      go true e true f Breaks = turned (refuse 10 (at + 2) (tag_of k)) refl (omega arith)
+      go true e true f (Ok u) = taken n e (omega (arith, leb-true n (length l) f))
+      go true e true f (Err (Outside i)) = turned (refuse 9 (at + 2 + i) (tag_of k)) refl (omega arith)
+      go true e true f (Err Breaks) = turned (refuse 10 (at + 2) (tag_of k)) refl (omega arith)
 
   -- ---- what the row finds
   pub look_here : (ts l : List ℕ) → here k l ≡ true → look_by kinds (entry_at k r) ts at l ≡ object_by kinds (entry_at k r) at (drop 1 l)
@@ -191,58 +189,57 @@ module _ (kinds : List ℕ) (k at : ℕ) (r : Row) where
     pub allowed : permitted r.lengths n ≡ true
     pub is : x ≡ there (take n (drop 1 l)) (drop n (drop 1 l))
 
-  pub took : (l : List ℕ) (x : Seen) (j start n : ℕ) → Stands l x → found_of k at x ≡ Object j start n → Took l start n x
+  pub took : (l : List ℕ) (x : Seen) (f : Found) → Stands l x → found_of k at x ≡ Ok f → Took l f.start f.length x
   unfolding found_of
-  took l x j start n (taken m p h) e =
+  took l x f (taken m p h) e =
       let long : length (take m (drop 1 l)) ≡ m = length-take-le m (drop 1 l) (omega (arith, length-drop 1 l)) in
-      let begins : at + 2 ≡ start = cc in
-      let same : length (take m (drop 1 l)) ≡ n = cc in
-      let is : m ≡ n = sym long ∙ same in
+      let found : found_at k (at + 2) (length (take m (drop 1 l))) ≡ f = cc in
+      let begins : at + 2 ≡ f.start = ap (λ (t : Found). t.start) found in
+      let is : m ≡ f.length = sym long ∙ ap (λ (t : Found). t.length) found in
       record { begins = sym begins; inside = omega arith; allowed = rw (← is) p; is = rw (← is) refl }
-  took l x j start n (turned y f h) e = absurd (let z : ◌≡◌ {A = ℕ} 0 1 = cc in omega arith)
+  took l x f (turned y g h) e = absurd (let z : ◌≡◌ {A = ℕ} 0 1 = cc in omega arith)
 
-  pub told_off : (l : List ℕ) (x : Seen) (a b c : ℕ) → Stands l x → found_of k at x ≡ Refused a b c → (x ≡ wrong (with_ends r.lengths a b c)) × (0 < (with_ends r.lengths a b c).number)
+  pub told_off : (l : List ℕ) (x : Seen) (o : Refused) → Stands l x → found_of k at x ≡ Err o
+      → (x ≡ wrong (with_ends r.lengths o.number o.place o.tag)) × (0 < (with_ends r.lengths o.number o.place o.tag).number)
   unfolding found_of
-  told_off l x a b c (taken m p h) e = absurd (let z : ◌≡◌ {A = ℕ} 0 1 = cc in omega arith)
-  told_off l x a b c (turned y f h) e =
-      let na : y.number ≡ a = cc in
-      let nb : y.place ≡ b = cc in
-      let nc : y.tag ≡ c = cc in
-      let same : with_ends r.lengths a b c ≡ y = rw (← na, ← nb, ← nc) f in
+  told_off l x o (taken m p h) e = absurd (let z : ◌≡◌ {A = ℕ} 0 1 = cc in omega arith)
+  told_off l x o (turned y f h) e =
+      let off : refused_at y.number y.place y.tag ≡ o = cc in
+      let same : with_ends r.lengths o.number o.place o.tag ≡ y = rw (← off) f in
       rw same (refl, h)
 
   -- the answer is that of what stands there
-  pub answer_is : (l part : List ℕ) (f : Found) → part ≡ l → found_told f ≡ found_told (found_of k at (object_by kinds (entry_at k r) at part)) → found_of k at (object_by kinds (entry_at k r) at l) ≡ f
+  pub answer_is : (l part : List ℕ) (f : Result Found Refused) → part ≡ l → found_told f ≡ found_told (found_of k at (object_by kinds (entry_at k r) at part)) → found_of k at (object_by kinds (entry_at k r) at l) ≡ f
   answer_is l part f e t = sym (told_apart f _ t ∙ ap (λ (x : List ℕ). found_of k at (object_by kinds (entry_at k r) at x)) e)
 
   -- ---- what the row meets
   module _ (ts l : List ℕ) where
-    pub meets_there : (start n : ℕ) → here k l ≡ true → Took (drop 1 l) start n (object_by kinds (entry_at k r) at (drop 1 l)) → There start n ≡ met_of at (look_by kinds (entry_at k r) ts at l)
+    pub meets_there : (start n : ℕ) → here k l ≡ true → Took (drop 1 l) start n (object_by kinds (entry_at k r) at (drop 1 l)) → Ok (Some (met_at start n)) ≡ met_of at (look_by kinds (entry_at k r) ts at l)
     unfolding met_of
     meets_there start n h t =
         let long : length (take n (drop 1 (drop 1 l))) ≡ n = length-take-le n (drop 1 (drop 1 l)) (omega (arith, t.inside, length-drop 1 (drop 1 l))) in
         rw (look_here ts l h, t.is, long, t.begins)
 
-    pub meets_wrong : (x : Refusal) → here k l ≡ true → object_by kinds (entry_at k r) at (drop 1 l) ≡ wrong x → Wrong x ≡ met_of at (look_by kinds (entry_at k r) ts at l)
+    pub meets_wrong : (x : Refusal) → here k l ≡ true → object_by kinds (entry_at k r) at (drop 1 l) ≡ wrong x → Err x ≡ met_of at (look_by kinds (entry_at k r) ts at l)
     unfolding met_of
     meets_wrong x h e = rw (look_here ts l h, e)
 
-    pub meets_absent : here k l ≡ false → r.required ≡ false → Absent ≡ met_of at (look_by kinds (entry_at k r) ts at l)
+    pub meets_absent : here k l ≡ false → r.required ≡ false → Ok None ≡ met_of at (look_by kinds (entry_at k r) ts at l)
     unfolding met_of
     meets_absent h q = rw (look_passed ts l h q)
 
-  pub meets_missing : (l : List ℕ) → here k l ≡ false → r.required ≡ true → Wrong (passed_over k at l) ≡ met_of at (look_by kinds (entry_at k r) (drop (suc k) tags) at l)
+  pub meets_missing : (l : List ℕ) → here k l ≡ false → r.required ≡ true → Err (passed_over k at l) ≡ met_of at (look_by kinds (entry_at k r) (drop (suc k) tags) at l)
   unfolding met_of
   meets_missing l h q = rw (look_missing l h q)
 
 -- ---- and what it has met
-pub met_absent : (at : ℕ) (x : Seen) → met_of at x ≡ Absent → x ≡ absent
+pub met_absent : (at : ℕ) (x : Seen) → met_of at x ≡ Ok None → x ≡ absent
 unfolding met_of
 met_absent at absent e = refl
 met_absent at (there v rest) e = absurd (let z : ◌≡◌ {A = ℕ} 0 1 = cc in omega arith)
 met_absent at (wrong y) e = absurd (let z : ◌≡◌ {A = ℕ} 0 1 = cc in omega arith)
 
-pub met_wrong : (at : ℕ) (x : Seen) (y : Refusal) → met_of at x ≡ Wrong y → x ≡ wrong y
+pub met_wrong : (at : ℕ) (x : Seen) (y : Refusal) → met_of at x ≡ Err y → x ≡ wrong y
 unfolding met_of
 met_wrong at absent y e = absurd (let z : ◌≡◌ {A = ℕ} 0 1 = cc in omega arith)
 met_wrong at (there v rest) y e = absurd (let z : ◌≡◌ {A = ℕ} 0 1 = cc in omega arith)
@@ -262,16 +259,17 @@ behind_value t n v rest e =
     let two : 2 + n ≡ suc (suc n) = omega arith in
     rw (two, ← e) (drop-append_seam v rest)
 
-pub met_there : (r : Entry) (ts l : List ℕ) (at start n : ℕ) → met_of at (look r ts at l) ≡ There start n → Lies l at start n (look r ts at l)
+pub met_there : (r : Entry) (ts l : List ℕ) (at : ℕ) (m : Met) → met_of at (look r ts at l) ≡ Ok (Some m) → Lies l at m.start m.length (look r ts at l)
 unfolding met_of
-met_there r ts l at start n e = go (view r ts at l) e
+met_there r ts l at m e = go (view r ts at l) e
   where
-    go : {x : Seen} → View r l x → met_of at x ≡ There start n → Lies l at start n x
+    go : {x : Seen} → View r l x → met_of at x ≡ Ok (Some m) → Lies l at m.start m.length x
     go (left_out h) q = absurd (let z : ◌≡◌ {A = ℕ} 0 1 = cc in omega arith)
     go amiss q = absurd (let z : ◌≡◌ {A = ℕ} 0 1 = cc in omega arith)
     go (found {v} {rest} b p d) q =
-        let long : length v ≡ n = cc in
-        let begins : at + 2 ≡ start = cc in
+        let met : met_at (at + 2) (length v) ≡ m = cc in
+        let begins : at + 2 ≡ m.start = ap (λ (t : Met). t.start) met in
+        let long : length v ≡ m.length = ap (λ (t : Met). t.length) met in
         let size = ap length b in
         record {
           v = v;
@@ -279,9 +277,9 @@ met_there r ts l at start n e = go (view r ts at l) e
           some = not_none v long p;
           long = long;
           inside = omega (arith, length-append v rest);
-          is = rw b (ap (there v) (sym (behind_value r.tag n v rest long)));
+          is = rw b (ap (there v) (sym (behind_value r.tag m.length v rest long)));
         }
       where
-        not_none : (v : List ℕ) → length v ≡ n → permitted r.row.lengths (length v) ≡ true → 0 < n
+        not_none : (v : List ℕ) → length v ≡ m.length → permitted r.row.lengths (length v) ≡ true → 0 < m.length
         not_none [] e p = absurd (true_false p (never_0 r.row.lengths))
         not_none (b ∷ v) e p = omega arith

@@ -1,9 +1,9 @@
 -- What the object reader answers in numbers, and the table of places of a template.
-use Rattle.std.specs.Prelude.{ℕ, suc, ◌+◌, Bool, true, false, cond, ◌&&◌, List, [], ◌∷◌, eqb, leb, length, take, drop}
+use Rattle.std.specs.Prelude.{ℕ, suc, ◌+◌, Bool, true, false, cond, ◌&&◌, List, [], ◌∷◌, eqb, leb, length, take, drop, Option, Some, None, Result, Ok, Err}
 use Rattle.edition.specs.declared.Row.{Row}
-use Rattle.rules.specs.declared.Verdict.{Verdict}
-use Rattle.rules.specs.declared.Verdict.TheVariants.{Takes, Outside, Breaks}
+use Rattle.rules.specs.declared.Fault.TheVariants.{Outside, Breaks}
 use Rattle.ground.specs.Lists.{among}
+use Rattle.rules.specs.Values.{Verdict}
 use Rattle.rules.specs.Kinds.{judged_by}
 use Rattle.edition.specs.Sets.{permitted}
 use Rattle.edition.specs.Rows.{tags, tag_of}
@@ -15,9 +15,8 @@ use Rattle.card.specs.Walk.{Seen, absent, there, wrong, weighed, passed, Walked,
 use Rattle.card.specs.Reading.{objects_refusal, rest_in, values_in, rest_refusal}
 use Rattle.card.specs.Places.{no_places, placed}
 use Rattle.objects.specs.declared.Found.{Found}
-use Rattle.objects.specs.declared.Found.TheVariants.{Object, Refused}
+use Rattle.objects.specs.declared.Refused.{Refused}
 use Rattle.objects.specs.declared.Met.{Met}
-use Rattle.objects.specs.declared.Met.TheVariants.{Absent, There, Wrong}
 
 abbrev pub entry_at : ℕ → Row → Entry
 entry_at k r = entry_of (tag_of k) r
@@ -32,9 +31,18 @@ pub record ToldFound : Type 0 where
   pub start : ℕ
   pub length : ℕ
 
-abbrev pub found_told : Found → ToldFound
-found_told (Object k start n) = record { refused = false; number = 0; place = 0; tag = tag_of k; row = k; start = start; length = n }
-found_told (Refused x place tag) = record { refused = true; number = x; place = place; tag = tag; row = 0; start = 0; length = 0 }
+abbrev pub found_told : Result Found Refused → ToldFound
+found_told (Ok f) = record { refused = false; number = 0; place = 0; tag = tag_of f.row; row = f.row; start = f.start; length = f.length }
+found_told (Err x) = record { refused = true; number = x.number; place = x.place; tag = x.tag; row = 0; start = 0; length = 0 }
+
+abbrev pub found_at : ℕ → ℕ → ℕ → Found
+found_at k start n = record { row = k; start = start; length = n }
+
+abbrev pub refused_at : ℕ → ℕ → ℕ → Refused
+refused_at number place tag = record { number = number; place = place; tag = tag }
+
+abbrev pub met_at : ℕ → ℕ → Met
+met_at start n = record { start = start; length = n }
 
 -- the object behind the tag at `at`, and what a row finds, where values are judged by a table, whatever it has: with the table of the kinds, as without one
 unfoldable pub object_by : List ℕ → Entry → ℕ → List ℕ → Seen
@@ -49,16 +57,16 @@ look_by kinds r ts at [] = passed r at true
 look_by kinds r ts at (b ∷ bs) = cond (eqb b r.tag) (object_by kinds r at bs) (passed r at (among b ts))
 
 -- what row k's object, whose tag stands at `at`, is in numbers; one that stands is not absent
-unfoldable pub found_of : ℕ → ℕ → Seen → Found
-found_of k at absent = Object k at 0
-found_of k at (there v rest) = Object k (at + 2) (length v)
-found_of k at (wrong x) = Refused x.number x.place x.tag
+unfoldable pub found_of : ℕ → ℕ → Seen → Result Found Refused
+found_of k at absent = Ok (found_at k at 0)
+found_of k at (there v rest) = Ok (found_at k (at + 2) (length v))
+found_of k at (wrong x) = Err (refused_at x.number x.place x.tag)
 
 -- row k's value of n bytes at start, by its verdict
-unfoldable pub valued : ℕ → ℕ → ℕ → Verdict → Found
-valued k start n Takes = Object k start n
-valued k start n (Outside i) = Refused 9 (start + i) (tag_of k)
-valued k start n Breaks = Refused 10 start (tag_of k)
+unfoldable pub valued : ℕ → ℕ → ℕ → Verdict → Result Found Refused
+valued k start n (Ok u) = Ok (found_at k start n)
+valued k start n (Err (Outside i)) = Err (refused_at 9 (start + i) (tag_of k))
+valued k start n (Err Breaks) = Err (refused_at 10 start (tag_of k))
 
 -- row k's tag stands at the head
 abbrev pub here : ℕ → List ℕ → Bool
@@ -74,11 +82,11 @@ passed_over k at (b ∷ bs) = cond (among b (drop (suc k) tags)) (refuse 6 at (t
 unfoldable pub with_ends : ℕ → ℕ → ℕ → ℕ → Refusal
 with_ends lengths number place tag = cond (eqb number 7) (refuse_length place tag lengths) (refuse number place tag)
 
--- what a row that sees x meets
-unfoldable pub met_of : ℕ → Seen → Met
-met_of at absent = Absent
-met_of at (there v rest) = There (at + 2) (length v)
-met_of at (wrong x) = Wrong x
+-- what a row that sees x meets: nothing of its own, which it may; its object; or a refusal
+unfoldable pub met_of : ℕ → Seen → Result (Option Met) Refusal
+met_of at absent = Ok None
+met_of at (there v rest) = Ok (Some (met_at (at + 2) (length v)))
+met_of at (wrong x) = Err x
 
 -- ---- the table
 -- the first object that is wrong, or 12, where the bytes end at `end`

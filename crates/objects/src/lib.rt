@@ -3,27 +3,25 @@
 // 12 is told with the table, 11 by the reader: the sums are asked of a whole table.
 #![tactic(auto)]
 
-use card::Refusal;
-
-// What the object reader answers.
+// The object behind a tag: its row, where its value begins, and how long it is.
 #[derive(Clone, Copy)]
-pub enum Found {
-    Object {
-        row: usize,
-        start: usize,
-        length: usize,
-    },
-    Refused {
-        number: u8,
-        place: usize,
-        tag: u8,
-    },
+pub struct Found {
+    pub row: usize,
+    pub start: usize,
+    pub length: usize,
 }
 
-// What a row meets: nothing of its own, which it may; its object; or a refusal.
+// What the object behind a tag is refused with; the ends of the row's set are not told yet.
 #[derive(Clone, Copy)]
-pub enum Met {
-    Absent,
-    There { start: usize, length: usize },
-    Wrong { refusal: Refusal },
+pub struct Refused {
+    pub number: u8,
+    pub place: usize,
+    pub tag: u8,
+}
+
+// What a row meets where its object is there: where the value begins, and how long it is.
+#[derive(Clone, Copy)]
+pub struct Met {
+    pub start: usize,
+    pub length: usize,
 }

@@ -14,7 +14,6 @@ ghost use Rattle.objects.specs.Objects.{table_of, listed};
 
 use card::{Places, Refusal};
 use edition::Row;
-use objects::Met;
 
 // The table with a refusal, and else with the places that were found.
 fn close(refusal: Refusal, starts: [u8; 16], lengths: [u8; 16]) -> Places
@@ -37,27 +36,17 @@ fn list_rows(template: &[u8], rows: [Row; 17], from: usize, kinds: &[u8]) -> Pla
 {
     let mut starts = [0u8; 16];
     let mut lengths = [0u8; 16];
-    let mut k: usize = 0;
     let mut i: usize = 0;
-    while k < 17 {
-        let row = rows[k];
-        match objects_meet::meet_row(&template[i..], (from + i) as u8, k, row, kinds) {
-            Met::Absent => {
-                k += 1;
-            }
-            Met::There { start, length } => {
-                i = i + 2 + length;
-                if k < 16 {
-                    starts[k] = start as u8;
-                    lengths[k] = length as u8;
-                    k += 1;
-                } else {
-                    k = 17;
-                }
-            }
-            Met::Wrong { refusal } => {
-                return Places::refused(refusal);
-            }
+    for (k, row) in rows.iter().enumerate() {
+        let met = match objects_meet::meet_row(&template[i..], (from + i) as u8, k, *row, kinds) {
+            Ok(Some(met)) => met,
+            Ok(None) => continue,
+            Err(refusal) => return Places::refused(refusal),
+        };
+        i = i + 2 + met.length;
+        if k < 16 {
+            starts[k] = met.start as u8;
+            lengths[k] = met.length as u8;
         }
     }
     let rest = objects_refusals::refuse_rest(template.len() - i, from + i);

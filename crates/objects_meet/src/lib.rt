@@ -7,8 +7,9 @@ ghost use Rattle.std.specs.Prelude.{◌≡◌, suc, drop};
 ghost use Rattle.edition.specs.Rows.{tags};
 ghost use Rattle.objects.specs.Objects.{entry_at, look_by, here, met_of};
 
+use card::Refusal;
 use edition::Row;
-use objects::{Found, Met};
+use objects::Met;
 
 // Whether row k's tag stands at the head of a part.
 fn is_here(part: &[u8], k: usize) -> bool
@@ -21,25 +22,31 @@ fn is_here(part: &[u8], k: usize) -> bool
 }
 
 // What row k meets at a place, where a part is left of the template.
-pub fn meet_row(part: &[u8], place: u8, k: usize, row: Row, kinds: &[u8]) -> Met
+pub fn meet_row(
+    part: &[u8],
+    place: u8,
+    k: usize,
+    row: Row,
+    kinds: &[u8],
+) -> Result<Option<Met>, Refusal>
     ensures { result ≡ met_of place (look_by kinds.now (entry_at k row) (drop (suc k) tags) place part.now) }
 {
     if is_here(part, k) {
         return match objects_read::read_object(&part[1..], place, k, row, kinds) {
-            Found::Object {
-                row: _,
-                start,
-                length,
-            } => Met::There { start, length },
-            Found::Refused { number, place, tag } => Met::Wrong {
-                refusal: objects_refusals::refuse(row.lengths, number, place, tag),
-            },
+            Ok(found) => Ok(Some(Met {
+                start: found.start,
+                length: found.length,
+            })),
+            Err(refused) => Err(objects_refusals::refuse(
+                row.lengths,
+                refused.number,
+                refused.place,
+                refused.tag,
+            )),
         };
     }
     if row.required {
-        return Met::Wrong {
-            refusal: objects_refusals::refuse_missing(part, place as usize, k),
-        };
+        return Err(objects_refusals::refuse_missing(part, place as usize, k));
     }
-    Met::Absent
+    Ok(None)
 }

@@ -8,60 +8,66 @@ ghost use Rattle.rules.specs.Values.{verdict_told};
 ghost use Rattle.objects.specs.Objects.{found_told, entry_at, object_by, valued, found_of};
 
 use edition::Row;
-use objects::Found;
-use rules::Verdict;
+use objects::{Found, Refused};
+use rules::Fault;
 
 // The answer for row k's value, by how it stands to its rule.
-fn weigh(k: usize, start: usize, n: usize, verdict: Verdict) -> Found
+fn weigh(k: usize, start: usize, n: usize, verdict: Result<(), Fault>) -> Result<Found, Refused>
     requires { start + (verdict_told verdict).index < 65536 }
     ensures { found_told result ≡ found_told (valued k start n verdict) }
 {
     match verdict {
-        Verdict::Takes => Found::Object {
+        Ok(()) => Ok(Found {
             row: k,
             start,
             length: n,
-        },
-        Verdict::Outside(i) => Found::Refused {
+        }),
+        Err(Fault::Outside(i)) => Err(Refused {
             number: 9,
             place: start + i,
             tag: edition_tags::tag_of(k),
-        },
-        Verdict::Breaks => Found::Refused {
+        }),
+        Err(Fault::Breaks) => Err(Refused {
             number: 10,
             place: start,
             tag: edition_tags::tag_of(k),
-        },
+        }),
     }
 }
 
 // Row k's object, whose tag stands at a place; the part begins behind it.
-pub fn read_object(part: &[u8], place: u8, k: usize, row: Row, kinds: &[u8]) -> Found
+pub fn read_object(
+    part: &[u8],
+    place: u8,
+    k: usize,
+    row: Row,
+    kinds: &[u8],
+) -> Result<Found, Refused>
     ensures { found_told result ≡ found_told (found_of k place (object_by kinds.now (entry_at k row) place part.now)) }
 {
     let at = place as usize;
     if part.len() == 0 {
-        return Found::Refused {
+        return Err(Refused {
             number: 8,
             place: at,
             tag: edition_tags::tag_of(k),
-        };
+        });
     }
     let n = part[0];
     if !edition_lengths::permits(row.lengths, n) {
-        return Found::Refused {
+        return Err(Refused {
             number: 7,
             place: at + 1,
             tag: edition_tags::tag_of(k),
-        };
+        });
     }
     let stop = 1 + n as usize;
     if part.len() < stop {
-        return Found::Refused {
+        return Err(Refused {
             number: 8,
             place: at,
             tag: edition_tags::tag_of(k),
-        };
+        });
     }
     let rule = row.rule;
     let verdict = rules_kinds::judge_by(kinds, rule, &part[1..stop]);

@@ -18,12 +18,10 @@ fn is_later(k: usize, b: u8) -> bool
     if k >= 17 {
         return false;
     }
-    let mut j = k + 1;
-    while j < 17 {
+    for j in k + 1..17 {
         if b == edition_tags::tag_of(j) {
             return true;
         }
-        j += 1;
     }
     false
 }

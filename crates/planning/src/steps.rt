@@ -32,10 +32,8 @@ fn put_changes(room: &mut [u32], at: usize, base: usize, old: &[u8], new: &[u8])
     ensures { Put room.old at (changes base old.now new.now) room.new result }
 {
     let mut count = at;
-    let mut i = 0;
-    while i < old.len() {
-        count = put_change(room, count, base + i, old[i], new[i]);
-        i += 1;
+    for (i, byte) in old.iter().enumerate() {
+        count = put_change(room, count, base + i, *byte, new[i]);
     }
     count
 }
@@ -53,10 +51,8 @@ fn count_changes(old: &[u8], new: &[u8]) -> usize
     ensures { result ≡ length (changes 0 old.now new.now) }
 {
     let mut count = 0;
-    let mut i = 0;
-    while i < old.len() {
-        count += count_change(old[i], new[i]);
-        i += 1;
+    for (i, byte) in old.iter().enumerate() {
+        count += count_change(*byte, new[i]);
     }
     count
 }

@@ -72,10 +72,8 @@ fn put_listed(room: &mut [u8], at: usize, set: u32) -> usize
     ensures upper_bound { result ≤ at + 128 }
 {
     let mut place = at;
-    let mut n: usize = 0;
-    while n < 32 {
+    for n in 0..32 {
         place = put_length(room, place, set, n);
-        n += 1;
     }
     place
 }

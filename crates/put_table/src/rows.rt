@@ -68,11 +68,8 @@ pub(crate) fn put_rows(room: &mut [u8], at: usize, edition: Edition) -> usize
     ensures upper_bound { result ≤ at + 17 * 183 }
 {
     let mut place = at;
-    let mut k: usize = 0;
-    while k < 17 {
-        let row = edition.rows[k];
-        place = put_row(room, place, k, row);
-        k += 1;
+    for (k, row) in edition.rows.iter().enumerate() {
+        place = put_row(room, place, k, *row);
     }
     place
 }

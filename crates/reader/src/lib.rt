@@ -32,13 +32,10 @@ fn copy_objects(image: &[u8], starts: [u8; 16], lengths: [u8; 16]) -> [Object; 1
     ensures { result ≡ map object_of (values_at image.now starts lengths) }
 {
     let mut objects = [Object::ABSENT; 16];
-    let mut i = 0;
-    while i < 16 {
+    for (i, object) in objects.iter_mut().enumerate() {
         let start = starts[i] as usize;
         let stop = start + lengths[i] as usize;
-        let object = copy_object(&image[start..stop]);
-        objects[i] = object;
-        i += 1;
+        *object = copy_object(&image[start..stop]);
     }
     objects
 }

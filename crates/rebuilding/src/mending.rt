@@ -34,10 +34,8 @@ fn mend_free(entries: &[u32], first: [u8; 12], second: [u8; 12]) -> [u8; 12]
 {
     let addresses: [u8; 12] = [6, 7, 8, 9, 10, 11, 12, 13, 14, 15, 16, 29];
     let mut free = first;
-    let mut i: usize = 0;
-    while i < 12 {
+    for i in 0..12 {
         free[i] = mend_byte(entries, addresses[i], first[i], second[i]);
-        i += 1;
     }
     free
 }
@@ -46,12 +44,10 @@ fn mend_objects(entries: &[u32], first: [Object; 16], second: [Object; 16]) -> [
     ensures { result ≡ mended (names_tag entries.now) object_tags first second }
 {
     let mut objects = first;
-    let mut i: usize = 0;
-    while i < 16 {
+    for i in 0..16 {
         let a = first[i];
         let b = second[i];
         objects[i] = mend_object(entries, edition_tags::tag_of(i), a, b);
-        i += 1;
     }
     objects
 }

@@ -7,7 +7,7 @@ ghost use Rattle.std.specs.Prelude.{◌≡◌};
 ghost use Rattle.report.specs.Clauses.{clause_of};
 
 use edition::Row;
-use nesting_rules::pick;
+use ground_pick::pick;
 use report_rules::rule_clause;
 
 pub fn clause_of(row: Row, last: bool) -> u8

@@ -12,14 +12,11 @@ use report::Finding;
 pub fn report_rows(rows: [Row; 17]) -> Finding
     ensures { result ≡ report_from 0 rows }
 {
-    let mut k: usize = 0;
-    while k < 17 {
-        let row = rows[k];
-        let clause = report_clauses::clause_of(row, k == 16);
+    for (k, row) in rows.iter().enumerate() {
+        let clause = report_clauses::clause_of(*row, k == 16);
         if clause != 0 {
             return Finding { clause, row: k };
         }
-        k += 1;
     }
     Finding { clause: 0, row: 17 }
 }

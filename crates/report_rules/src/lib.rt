@@ -4,28 +4,10 @@
 #![tactic(auto)]
 
 ghost use Rattle.std.specs.Prelude.{◌≡◌};
-ghost use Rattle.edition.specs.Rows.{by_rule};
 ghost use Rattle.report.specs.Clauses.{rule_clauses, first_failing};
 
-use edition::Row;
-use nesting_rules::pick;
-use rules::Rule;
-
-// Of four tests, the one that a rule asks for.
-fn by_rule(rule: Rule, plain: bool, birth: bool, expiry: bool, raw: bool) -> bool
-    ensures { result ≡ by_rule rule plain birth expiry raw }
-{
-    match rule {
-        Rule::Digits => plain,
-        Rule::Text => plain,
-        Rule::Lead => plain,
-        Rule::Code => plain,
-        Rule::Birth => birth,
-        Rule::Expiry => expiry,
-        Rule::Raw => raw,
-        Rule::NotD => plain,
-    }
-}
+use edition::{Row, by_rule};
+use ground_pick::pick;
 
 // The first clause from 5 on, those that speak of the rule, that fails of a row; 0 where none does. Last says that it is the row of the checksum.
 pub fn rule_clause(row: Row, last: bool) -> u8

@@ -37,12 +37,10 @@ fn take_steps(edition: Edition, old: &[u8], new: &[u8], steps: &[u32], state: &m
     requires { length state.old ≡ 256 }
     ensures { result ≡ plan_test edition old.now new.now state.old steps.now }
 {
-    let mut i = 0;
-    while i < steps.len() {
-        if !take_step(edition, old, new, steps[i], state) {
+    for word in steps {
+        if !take_step(edition, old, new, *word, state) {
             return false;
         }
-        i += 1;
     }
     ground_parts::is_same(state, new)
 }

@@ -13,7 +13,8 @@ use lib.ListN.{length, get_or, drop, get_or-eq_default}
 use lib.Seq.{drop-cons, drop-length}
 use Rattle.rules.specs.declared.Rule.{Rule}
 use Rattle.rules.specs.declared.Rule.TheVariants.{Digits, Text, Lead, Code, Birth, Expiry, Raw, NotD}
-use Rattle.rules.specs.declared.Verdict.TheVariants.{Takes, Breaks}
+use Rattle.std.specs.Prelude.{Ok, Err}
+use Rattle.rules.specs.declared.Fault.TheVariants.{Breaks}
 use Rattle.ground.specs.Lists.{leading}
 use Rattle.ground.proofs.Lists.{and_right}
 use Rattle.rules.specs.Values.{is_digit, is_text, by_class, takes, holds, judged}
@@ -129,6 +130,6 @@ pub by_kinds : (rule : Rule) (v : List ℕ) → judged_by kind_table rule v ≡ 
 unfolding judged_by judged
 by_kinds rule v = go (within kind_table rule v) refl
   where
-    go : (q : Bool) → within kind_table rule v ≡ q → cond q (cond (holds rule v) Takes Breaks) (judged rule v) ≡ judged rule v
+    go : (q : Bool) → within kind_table rule v ≡ q → cond q (cond (holds rule v) (Ok tt) (Err Breaks)) (judged rule v) ≡ judged rule v
     go true e = rw (le-ltb (leading (takes rule) v) (length v) (within_taken rule v e))
     go false e = refl

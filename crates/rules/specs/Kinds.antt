@@ -1,10 +1,9 @@
 -- The kinds of bytes, for the code: a value is looked through by a table of them, and only one with a byte of a kind above its rule's is judged byte by byte.
-use Rattle.std.specs.Prelude.{ℕ, zero, suc, Bool, cond, ◌&&◌, List, [], ◌∷◌, eqb, leb, length, get_or}
+use Rattle.std.specs.Prelude.{ℕ, zero, suc, Bool, cond, ◌&&◌, List, [], ◌∷◌, eqb, leb, length, get_or, Ok, Err}
 use Rattle.std.specs.Int.Bits.{bit_or}
 use Rattle.rules.specs.declared.Rule.{Rule}
-use Rattle.rules.specs.declared.Verdict.{Verdict}
-use Rattle.rules.specs.declared.Verdict.TheVariants.{Takes, Breaks}
-use Rattle.rules.specs.Values.{is_digit, is_text, by_class, holds, judged}
+use Rattle.rules.specs.declared.Fault.TheVariants.{Breaks}
+use Rattle.rules.specs.Values.{is_digit, is_text, by_class, holds, Verdict, judged}
 
 -- 0 a digit, 1 other text, 3 any other byte
 abbrev pub kind_of : ℕ → ℕ
@@ -30,4 +29,4 @@ within table rule v = eqb (length table) 256 && leb (worst_in table 0 v) (by_cla
 
 -- what a value is judged with by a table, whatever it has: with the table of the kinds, as without one
 unfoldable pub judged_by : List ℕ → Rule → List ℕ → Verdict
-judged_by table rule v = cond (within table rule v) (cond (holds rule v) Takes Breaks) (judged rule v)
+judged_by table rule v = cond (within table rule v) (cond (holds rule v) (Ok tt) (Err Breaks)) (judged rule v)

@@ -1,9 +1,9 @@
 -- The value rules, and what a rule says of a value.
-use Rattle.std.specs.Prelude.{ℕ, ◌+◌, ◌-◌, ◌*◌, Bool, true, cond, not, ◌&&◌, ◌||◌, List, [], ◌∷◌, eqb, leb, ltb, length, get_or}
+use Rattle.std.specs.Prelude.{ℕ, ◌+◌, ◌-◌, ◌*◌, Bool, true, cond, not, ◌&&◌, ◌||◌, List, [], ◌∷◌, eqb, leb, ltb, length, get_or, Result, Ok, Err}
 use Rattle.rules.specs.declared.Rule.{Rule}
 use Rattle.rules.specs.declared.Rule.TheVariants.{Digits, Text, Lead, Code, Birth, Expiry, Raw, NotD}
-use Rattle.rules.specs.declared.Verdict.{Verdict}
-use Rattle.rules.specs.declared.Verdict.TheVariants.{Takes, Outside, Breaks}
+use Rattle.rules.specs.declared.Fault.{Fault}
+use Rattle.rules.specs.declared.Fault.TheVariants.{Outside, Breaks}
 use Rattle.ground.specs.Lists.{among, leading}
 
 abbrev pub between : ℕ → ℕ → ℕ → Bool
@@ -79,11 +79,15 @@ holds rule v =
     (is_expiry (length v) (two (get_or v 0 0) (get_or v 1 0)))
     (is_not_d (length v) (get_or v 0 0))
 
+-- how a value stands to its rule: it is taken, or something is wrong with it
+abbrev pub Verdict : Type 0
+Verdict = Result (Unit {0}) Fault
+
 -- a byte outside the rule's characters is told before all else
 unfoldable pub judged : Rule → List ℕ → Verdict
 judged rule v =
-    cond (ltb (leading (takes rule) v) (length v)) (Outside (leading (takes rule) v))
-    (cond (holds rule v) Takes Breaks)
+    cond (ltb (leading (takes rule) v) (length v)) (Err (Outside (leading (takes rule) v)))
+    (cond (holds rule v) (Ok tt) (Err Breaks))
 
 -- a verdict in the document's numbers: 0 where the value is taken, 9 with the index, 10
 pub record ToldVerdict : Type 0 where
@@ -91,6 +95,6 @@ pub record ToldVerdict : Type 0 where
   pub index : ℕ
 
 abbrev pub verdict_told : Verdict → ToldVerdict
-verdict_told Takes = record { number = 0; index = 0 }
-verdict_told (Outside i) = record { number = 9; index = i }
-verdict_told Breaks = record { number = 10; index = 0 }
+verdict_told (Ok u) = record { number = 0; index = 0 }
+verdict_told (Err (Outside i)) = record { number = 9; index = i }
+verdict_told (Err Breaks) = record { number = 10; index = 0 }

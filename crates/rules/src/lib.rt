@@ -16,10 +16,9 @@ pub enum Rule {
     NotD,
 }
 
-// How a value stands to its rule.
+// What is wrong with a value; one that its rule takes is `Ok(())`.
 #[derive(Clone, Copy)]
-pub enum Verdict {
-    Takes,
+pub enum Fault {
     // The index of the first byte outside the rule's characters.
     Outside(usize),
     // The characters are right; the lead, the code, the birth or the expiry is not, or the value is the single D that its rule leaves out.

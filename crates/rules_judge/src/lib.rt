@@ -8,7 +8,7 @@ ghost use Rattle.ground.specs.Lists.{leading};
 ghost use Rattle.rules_judge.specs.Characters.{characters_of, has_byte};
 ghost use Rattle.rules.specs.Values.{by_class, takes, judged, verdict_told};
 
-use rules::{Rule, Verdict};
+use rules::{Fault, Rule};
 
 // The characters of a rule as bits: bit b of `low` for byte b, bit b - 64 of `high` for byte b up to 127; `rest` for those above.
 #[derive(Clone, Copy)]
@@ -77,30 +77,28 @@ fn count_taken(rule: Rule, v: &[u8]) -> usize
     ensures { result ≡ leading (takes rule) v.now }
 {
     let characters = characters_of(rule);
-    let mut i: usize = 0;
-    while i < v.len() {
-        if !has(characters, v[i]) {
+    for (i, b) in v.iter().enumerate() {
+        if !has(characters, *b) {
             return i;
         }
-        i += 1;
     }
-    i
+    v.len()
 }
 
 // Whether a rule takes a value, or what is wrong with it.
-pub fn judge(rule: Rule, v: &[u8]) -> Verdict
+pub fn judge(rule: Rule, v: &[u8]) -> Result<(), Fault>
     ensures { verdict_told result ≡ verdict_told (judged rule v.now) }
 {
     let n = count_taken(rule, v);
     if n < v.len() {
-        return Verdict::Outside(n);
+        return Err(Fault::Outside(n));
     }
     if rules_sense::is_plain(rule) {
-        return Verdict::Takes;
+        return Ok(());
     }
     if rules_sense::holds_for(rule, v) {
-        Verdict::Takes
+        Ok(())
     } else {
-        Verdict::Breaks
+        Err(Fault::Breaks)
     }
 }

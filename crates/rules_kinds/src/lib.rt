@@ -4,11 +4,11 @@
 #![tactic(auto)]
 
 ghost use Rattle.std.specs.Prelude.{◌≡◌, cond, length};
-ghost use Rattle.rules.specs.declared.Verdict.TheVariants.{Takes, Breaks};
+ghost use Rattle.rules.specs.declared.Fault.TheVariants.{Breaks};
 ghost use Rattle.rules.specs.Values.{by_class, holds, verdict_told};
 ghost use Rattle.rules.specs.Kinds.{kind_table, worst_in, within, judged_by};
 
-use rules::{Rule, Verdict};
+use rules::{Fault, Rule};
 
 // The kind of each byte: 0 a digit, 1 other text, 3 any other.
 const KINDS: [u8; 256] = [
@@ -283,11 +283,8 @@ fn worst_of(kinds: &[u8], v: &[u8]) -> u8
     ensures { result ≡ worst_in kinds.now 0 v.now }
 {
     let mut worst = 0u8;
-    let mut i: usize = 0;
-    while i < v.len() {
-        let b = v[i];
-        worst = worst | kinds[b as usize];
-        i += 1;
+    for b in v {
+        worst |= kinds[*b as usize];
     }
     worst
 }
@@ -319,21 +316,21 @@ fn is_within(kinds: &[u8], rule: Rule, v: &[u8]) -> bool
 }
 
 // What is said of a value whose bytes are all of the rule's characters.
-fn judge_sense(rule: Rule, v: &[u8]) -> Verdict
-    ensures { verdict_told result ≡ verdict_told (cond (holds rule v.now) Takes Breaks) }
+fn judge_sense(rule: Rule, v: &[u8]) -> Result<(), Fault>
+    ensures { verdict_told result ≡ verdict_told (cond (holds rule v.now) (Ok tt) (Err Breaks)) }
 {
     if rules_sense::is_plain(rule) {
-        return Verdict::Takes;
+        return Ok(());
     }
     if rules_sense::holds_for(rule, v) {
-        Verdict::Takes
+        Ok(())
     } else {
-        Verdict::Breaks
+        Err(Fault::Breaks)
     }
 }
 
 // Whether a rule takes a value, or what is wrong with it, by a table: with that of `kinds` it is what `judge` answers.
-pub fn judge_by(kinds: &[u8], rule: Rule, v: &[u8]) -> Verdict
+pub fn judge_by(kinds: &[u8], rule: Rule, v: &[u8]) -> Result<(), Fault>
     ensures { verdict_told result ≡ verdict_told (judged_by kinds.now rule v.now) }
 {
     if is_within(kinds, rule, v) {

@@ -11,38 +11,39 @@ use rules::Rule;
 fn is_lead(b: u8) -> bool
     ensures { result ≡ is_lead b }
 {
-    (b == b'1') | (b == b'3') | (b == b'5')
+    matches!(b, b'1' | b'3' | b'5')
 }
 
 fn is_code(b: u8) -> bool
     ensures { result ≡ is_code b }
 {
-    (b == b'1')
-        | (b == b'9')
-        | (b == b'4')
-        | (b == b'6')
-        | (b == b'7')
-        | (b == b'8')
-        | (b == b'M')
-        | (b == b'X')
-        | (b == b'A')
-        | (b == b'C')
-        | (b == b'K')
-        | (b == b'L')
-        | (b == b'E')
-        | (b == b'N')
-        | (b == b'D')
-        | (b == b'F')
-        | (b == b'S')
-        | (b == b'P')
+    matches!(
+        b,
+        b'1' | b'9'
+            | b'4'
+            | b'6'
+            | b'7'
+            | b'8'
+            | b'M'
+            | b'X'
+            | b'A'
+            | b'C'
+            | b'K'
+            | b'L'
+            | b'E'
+            | b'N'
+            | b'D'
+            | b'F'
+            | b'S'
+            | b'P'
+    )
 }
 
 // The number that two digits write.
 fn two_of(tens: u8, ones: u8) -> u32
     ensures { result ≡ two tens ones }
 {
-    let x = (tens as u32) * 10 + ones as u32;
-    if x < 528 { 0 } else { x - 528 }
+    (u32::from(tens) * 10 + u32::from(ones)).saturating_sub(11 * 0x30)
 }
 
 fn is_birth(length: usize, day: u32, month: u32) -> bool

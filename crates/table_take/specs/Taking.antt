@@ -1,6 +1,6 @@
 -- A table from its text: `edition` and its number, then the rows in card order; lines that are blank or start with # are skipped. What is wrong,
 -- beyond the words of a line: 11 the text goes on behind the last row, 12 it ends before it.
-use Rattle.std.specs.Prelude.{ℕ, suc, ◌+◌, ◌-◌, Bool, cond, List, [], ◌∷◌, eqb, ltb, get_or, set, replicate}
+use Rattle.std.specs.Prelude.{ℕ, suc, ◌+◌, ◌-◌, Bool, cond, List, [], ◌∷◌, eqb, ltb, get_or, set, replicate, Result, Ok, Err}
 use Rattle.rules.specs.declared.Rule.{Rule}
 use Rattle.rules.specs.declared.Rule.TheVariants.{Digits, Text, Lead, Code, Birth, Expiry, Raw, NotD}
 use Rattle.edition.specs.declared.Row.{Row}
@@ -9,7 +9,7 @@ use Rattle.edition.specs.Rows.{no_row}
 use Rattle.table_take.specs.declared.Kind.TheVariants.{Blanks}
 use Rattle.table_take.specs.declared.Fields.{Fields}
 use Rattle.table_take.specs.declared.Taking.{Taking}
-use Rattle.table_take.specs.declared.Taken.{Taken}
+use Rattle.table_take.specs.declared.Mistake.{Mistake}
 use Rattle.table_take.specs.Splitting.{behind_kind, lines}
 use Rattle.table_take.specs.Words.{line_taken}
 
@@ -51,16 +51,16 @@ with_line t n line =
     (cond (eqb (line_taken t.due line).wrong 0) (stored t (line_taken t.due line)) (refused t (line_taken t.due line).wrong n))))
     t
 
-abbrev pub no_edition : Edition
-no_edition = record { rows = no_rows; number = 0 }
+abbrev pub Taken : Type 0
+Taken = Result Edition Mistake
 
 abbrev pub not_taken : ℕ → ℕ → ℕ → Taken
-not_taken wrong line due = record { wrong = wrong; line = line; due = due; edition = no_edition }
+not_taken wrong line due = Err (record { wrong = wrong; line = line; due = due })
 
 unfoldable pub finished : Taking → ℕ → Taken
 finished t n =
     cond (eqb t.wrong 0)
-    (cond (ltb t.due 18) (not_taken 12 n t.due) (record { wrong = 0; line = 0; due = 0; edition = record { rows = t.rows; number = t.number } }))
+    (cond (ltb t.due 18) (not_taken 12 n t.due) (Ok (record { rows = t.rows; number = t.number })))
     (not_taken t.wrong t.line t.due)
 
 -- the lines from number n on

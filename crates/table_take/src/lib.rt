@@ -49,12 +49,14 @@ pub struct Taking {
     pub rows: [Row; 17],
 }
 
-// What a text gives: wrong is 0 and edition what is written; or wrong tells what is wrong, line where, counted from 1, and due which line
-// of the table was due there: 0 that of the number, k + 1 that of row k.
+// What is wrong with a text, where, by the line counted from 1, and which line of the table was due there: 0 that of the number, k + 1 that
+// of row k.
 #[derive(Clone, Copy)]
-pub struct Taken {
+pub struct Mistake {
     pub wrong: u8,
     pub line: usize,
     pub due: usize,
-    pub edition: Edition,
 }
+
+// What a text gives: the edition that is written, or what is wrong.
+pub type Taken = Result<Edition, Mistake>;

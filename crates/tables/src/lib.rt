@@ -32,15 +32,15 @@ fn none(status: u8) -> Chosen
 fn take<R: Outside>(rt: &R, name: &[u8], text: &[u8]) -> Chosen
     ensures { result.status < 4 }
 {
-    let taken = take_lines::take(text);
-    let edition = taken.edition;
-    if taken.wrong != 0 {
-        wrong::say_wrong(rt, name, taken.line, taken.wrong, taken.due);
-        return none(words::FAILED);
-    }
-    Chosen {
-        status: words::DONE,
-        edition,
+    match take_lines::take(text) {
+        Ok(edition) => Chosen {
+            status: words::DONE,
+            edition,
+        },
+        Err(mistake) => {
+            wrong::say_wrong(rt, name, mistake.line, mistake.wrong, mistake.due);
+            none(words::FAILED)
+        }
     }
 }
 

@@ -34,14 +34,12 @@ pub fn behind(text: &[u8], at: usize, kind: Kind) -> usize
     ensures value { result ≡ behind_kind kind text.now at }
     ensures lower_bound { (at ≤ result) × (result - length text.now ≤ at - length text.now) }
 {
-    let mut i = at;
-    while i < text.len() {
+    for i in at..text.len() {
         if !is_kind(kind, text[i]) {
             return i;
         }
-        i += 1;
     }
-    i
+    at.max(text.len())
 }
 
 // Whether a line is blank or starts with #.

@@ -6,48 +6,30 @@
 ghost use Rattle.std.specs.Prelude.{◌≡◌};
 ghost use Rattle.table_take.specs.Taking.{finished};
 
-use edition::{Edition, Row};
-use rules::Rule;
-use table_take::{Taken, Taking};
-
-const BLANK: Row = Row {
-    required: false,
-    rule: Rule::Digits,
-    lengths: 0,
-};
+use edition::Edition;
+use table_take::{Mistake, Taken, Taking};
 
 // What all lines have said; n is the number of the line behind the last.
 pub fn finished(state: Taking, n: usize) -> Taken
     ensures { result ≡ finished state n }
 {
     let rows = state.rows;
-    let none = Edition {
-        rows: [BLANK; 17],
-        number: 0,
-    };
     if state.wrong != 0 {
-        return Taken {
+        return Err(Mistake {
             wrong: state.wrong,
             line: state.line,
             due: state.due,
-            edition: none,
-        };
+        });
     }
     if state.due < 18 {
-        return Taken {
+        return Err(Mistake {
             wrong: 12,
             line: n,
             due: state.due,
-            edition: none,
-        };
+        });
     }
-    Taken {
-        wrong: 0,
-        line: 0,
-        due: 0,
-        edition: Edition {
-            rows,
-            number: state.number,
-        },
-    }
+    Ok(Edition {
+        rows,
+        number: state.number,
+    })
 }

@@ -7,25 +7,15 @@ ghost use Rattle.std.specs.Prelude.{◌≡◌, ◌≤◌};
 ghost use Rattle.table_take.specs.Taking.{refused, stored, with_line, taken};
 
 use edition::Row;
-use rules::Rule;
 use table_take::{Fields, Kind, Taken, Taking};
-
-const BLANK: Row = Row {
-    required: false,
-    rule: Rule::Digits,
-    lengths: 0,
-};
 
 fn refused(state: Taking, wrong: u8, line: usize) -> Taking
     ensures { result ≡ refused state wrong line }
 {
-    let rows = state.rows;
     Taking {
         wrong,
         line,
-        due: state.due,
-        number: state.number,
-        rows,
+        ..state
     }
 }
 
@@ -35,16 +25,16 @@ fn stored(state: Taking, got: Fields) -> Taking
     ensures { result ≡ stored state got }
 {
     let due = state.due;
-    let mut rows = state.rows;
     if due == 0 {
         return Taking {
             wrong: 0,
             line: 0,
             due: 1,
             number: got.number,
-            rows,
+            ..state
         };
     }
+    let mut rows = state.rows;
     rows[due - 1] = Row {
         required: got.required,
         rule: take_rules::rule_by(got.rule),
@@ -54,8 +44,8 @@ fn stored(state: Taking, got: Fields) -> Taking
         wrong: 0,
         line: 0,
         due: due + 1,
-        number: state.number,
         rows,
+        ..state
     }
 }
 
@@ -87,7 +77,7 @@ pub fn take(text: &[u8]) -> Taken
         line: 0,
         due: 0,
         number: 0,
-        rows: [BLANK; 17],
+        rows: [Row::BLANK; 17],
     };
     let mut n = 1;
     let mut at = 0;

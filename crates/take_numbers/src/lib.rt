@@ -44,10 +44,8 @@ pub fn number_of(word: &[u8]) -> u16
     ensures { result ≡ number_of word.now }
 {
     let mut number = NOTHING;
-    let mut i = 0;
-    while i < word.len() {
-        number = with_byte(number, word[i]);
-        i += 1;
+    for b in word {
+        number = with_byte(number, *b);
     }
     number
 }

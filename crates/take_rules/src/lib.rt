@@ -12,16 +12,5 @@ use rules::Rule;
 pub fn rule_by(number: u8) -> Rule
     ensures { result ≡ rule_by number }
 {
-    if number > 6 {
-        return Rule::NotD;
-    }
-    match number {
-        0 => Rule::Digits,
-        1 => Rule::Text,
-        2 => Rule::Lead,
-        3 => Rule::Code,
-        4 => Rule::Birth,
-        5 => Rule::Expiry,
-        _ => Rule::Raw,
-    }
+    nesting_rules::rule_of(number)
 }

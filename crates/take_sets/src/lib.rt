@@ -16,10 +16,8 @@ fn with_range(set: u32, first: u16, last: u16) -> u32
     ensures { result ≡ with_range set first (last + 1 - first) }
 {
     let mut all = set;
-    let mut n = first;
-    while n <= last {
-        all = all | (1 << n);
-        n += 1;
+    for n in first..last + 1 {
+        all |= 1 << n;
     }
     all
 }
@@ -73,9 +71,9 @@ fn closed(item: Listed) -> Listed
     if fault != 0 {
         return Listed {
             wrong: fault,
-            set: item.set,
             from: NO_RANGE,
             number: NOTHING,
+            ..item
         };
     }
     Listed {
@@ -92,9 +90,9 @@ fn begun(item: Listed) -> Listed
 {
     Listed {
         wrong: range_fault(item.from, item.number),
-        set: item.set,
         from: item.number,
         number: NOTHING,
+        ..item
     }
 }
 
@@ -112,9 +110,8 @@ fn with_sign(item: Listed, sign: u8) -> Listed
     }
     Listed {
         wrong: 0,
-        set: item.set,
-        from: item.from,
         number: take_numbers::with_byte(item.number, sign),
+        ..item
     }
 }
 
@@ -131,10 +128,8 @@ pub fn lengths_of(word: &[u8]) -> Listed
     if table_words::is_word(word, 28) {
         return item;
     }
-    let mut i = 0;
-    while i < word.len() {
-        item = with_sign(item, word[i]);
-        i += 1;
+    for sign in word {
+        item = with_sign(item, *sign);
     }
     closed(item)
 }

@@ -31,14 +31,12 @@ fn rule_found(word: &[u8]) -> u8
     ensures value { result ≡ rule_found word.now 19 8 }
     ensures lower_bound { 19 ≤ result }
 {
-    let mut n: u8 = 19;
-    while n < 27 {
+    for n in 19..27 {
         if table_words::is_word(word, n as usize) {
             return n;
         }
-        n += 1;
     }
-    n
+    27
 }
 
 fn marked(got: Fields, wrong: u8, field: u8) -> Fields
@@ -47,10 +45,7 @@ fn marked(got: Fields, wrong: u8, field: u8) -> Fields
     Fields {
         wrong,
         field,
-        number: got.number,
-        required: got.required,
-        rule: got.rule,
-        lengths: got.lengths,
+        ..got
     }
 }
 
@@ -69,9 +64,7 @@ fn head_word(got: Fields, word: &[u8]) -> Fields
         wrong: fault(number < 256, 2),
         field: 2,
         number: (number % 256) as u8,
-        required: got.required,
-        rule: got.rule,
-        lengths: got.lengths,
+        ..got
     }
 }
 
@@ -82,10 +75,8 @@ fn with_presence(got: Fields, word: &[u8]) -> Fields
     Fields {
         wrong: fault(required | table_words::is_word(word, 18), 5),
         field: 3,
-        number: got.number,
         required,
-        rule: got.rule,
-        lengths: got.lengths,
+        ..got
     }
 }
 
@@ -96,10 +87,8 @@ fn with_rule(got: Fields, word: &[u8]) -> Fields
     Fields {
         wrong: fault(rule < 27, 6),
         field: 4,
-        number: got.number,
-        required: got.required,
         rule: rule - 19,
-        lengths: got.lengths,
+        ..got
     }
 }
 
@@ -110,10 +99,8 @@ fn with_lengths(got: Fields, word: &[u8]) -> Fields
     Fields {
         wrong: listed.wrong,
         field: 5,
-        number: got.number,
-        required: got.required,
-        rule: got.rule,
         lengths: listed.set,
+        ..got
     }
 }
 

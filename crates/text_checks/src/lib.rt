@@ -6,59 +6,54 @@
 ghost use Rattle.std.specs.Prelude.{◌≡◌};
 ghost use Rattle.card_text.specs.Faults.{fault_of_line, fault_at, first_fault};
 
-use card_text::Fault;
+use card_text::{Fault, Wrong};
 
-// What is wrong with a line with this number.
-fn fault_of_line(text: &[u8], line: &[u8], number: usize) -> u8
+// What is wrong with a line with this number, where something is.
+fn fault_of_line(text: &[u8], line: &[u8], number: usize) -> Option<Wrong>
     ensures { result ≡ fault_of_line text.now line.now number }
 {
     let key = line_keys::key_of(line);
     if key == card_lines::SKIPPED {
-        return 0;
+        return None;
     }
     if key == card_lines::UNKNOWN {
-        return 1;
+        return Some(Wrong::Name);
     }
     if key == card_lines::CHECKSUM {
-        return 5;
+        return Some(Wrong::Checksum);
     }
-    if text_entries::line_of(text, key) < number {
-        return 2;
+    let first = text_entries::line_of(text, key).unwrap_or(0);
+    if first < number {
+        return Some(Wrong::Again);
     }
     text_values::fault_of_value(key, line_values::value_in(line))
 }
 
 // The fault of a line with this number.
-fn fault_at(number: u8, line: usize, whole: &[u8]) -> Fault
-    ensures { result ≡ fault_at number line whole.now }
+fn fault_at(wrong: Wrong, line: usize, whole: &[u8]) -> Fault
+    ensures { result ≡ fault_at wrong line whole.now }
 {
     Fault {
-        number,
+        wrong,
         line,
         key: line_keys::key_of(whole),
         place: text_values::count_letters(line_values::value_in(whole)),
     }
 }
 
-// The first fault of a text, line by line.
-pub fn check(text: &[u8]) -> Fault
+// The first fault of a text, line by line, where there is one.
+pub fn check(text: &[u8]) -> Option<Fault>
     ensures { result ≡ first_fault text.now }
 {
     let mut at = 0;
     let mut line = 1;
     while at < text.len() {
         let feed = line_ends::feed_from(text, at);
-        let number = fault_of_line(text, &text[at..feed], line);
-        if number != 0 {
-            return fault_at(number, line, &text[at..feed]);
+        if let Some(wrong) = fault_of_line(text, &text[at..feed], line) {
+            return Some(fault_at(wrong, line, &text[at..feed]));
         }
         at = feed + 1;
         line += 1;
     }
-    Fault {
-        number: 0,
-        line: 0,
-        key: 0,
-        place: 0,
-    }
+    None
 }

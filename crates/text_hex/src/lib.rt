@@ -3,56 +3,34 @@
 // A byte of a value that is no hex digit counts as 0, so that each value has bytes; `is_hex` tells whether they were written.
 #![tactic(auto)]
 
-ghost use Rattle.std.specs.Prelude.{◌≡◌, ◌<◌};
+ghost use Rattle.std.specs.Prelude.{◌≡◌, ◌<◌, IfSome};
 ghost use Rattle.ground.specs.Lists.{leading};
-ghost use Rattle.card_text.specs.Hex.{letter_value, digit_value, is_digit, is_hex, byte_at};
+ghost use Rattle.card_text.specs.Hex.{digit_value, is_digit, is_hex, byte_at};
 
-// What a letter stands for, as a hex digit; 16 where it is none.
-fn letter_value(digit: u8) -> u8
-    ensures value { result ≡ letter_value digit }
-    ensures upper_bound { result < 17 }
-{
-    if digit < b'A' {
-        return 16;
-    }
-    if digit <= b'F' {
-        return digit - b'A' + 10;
-    }
-    if digit < b'a' {
-        return 16;
-    }
-    if digit <= b'f' {
-        return digit - b'a' + 10;
-    }
-    16
-}
-
-// What a hex digit stands for; 16 where it is none.
-fn digit_value(digit: u8) -> u8
+// What a hex digit stands for, where it is one.
+#[tactic(auto, unfolding(card_text::specs::Hex::digit_value))]
+pub fn digit_value(digit: u8) -> Option<u8>
     ensures value { result ≡ digit_value digit }
-    ensures upper_bound { result < 17 }
+    ensures upper_bound { IfSome result (λ n. n < 16) }
 {
-    if digit < b'0' {
-        return 16;
+    match digit {
+        b'0'..=b'9' => Some(digit - b'0'),
+        b'A'..=b'F' => Some(digit - b'A' + 10),
+        b'a'..=b'f' => Some(digit - b'a' + 10),
+        _ => None,
     }
-    if digit <= b'9' {
-        return digit - b'0';
-    }
-    letter_value(digit)
 }
 
 // How many hex digits stand at the head of a value.
 fn count_digits(value: &[u8]) -> usize
     ensures { result ≡ leading is_digit value.now }
 {
-    let mut i = 0;
-    while i < value.len() {
-        if digit_value(value[i]) > 15 {
+    for (i, digit) in value.iter().enumerate() {
+        if digit_value(*digit).is_none() {
             return i;
         }
-        i += 1;
     }
-    i
+    value.len()
 }
 
 // Whether a value is so many hex digits.
@@ -69,7 +47,7 @@ pub fn byte_at(value: &[u8], i: usize) -> u8
     if i >= value.len() / 2 {
         return 0;
     }
-    let high = digit_value(ground_parts::byte_at(value, 2 * i)) % 16;
-    let low = digit_value(ground_parts::byte_at(value, 2 * i + 1)) % 16;
+    let high = digit_value(ground_parts::byte_at(value, 2 * i)).unwrap_or(0);
+    let low = digit_value(ground_parts::byte_at(value, 2 * i + 1)).unwrap_or(0);
     high * 16 + low
 }

@@ -27,10 +27,8 @@ pub fn objects_of(text: &[u8]) -> [Object; 16]
     ensures { result ≡ objects_said text.now }
 {
     let mut objects = [Object::ABSENT; 16];
-    let mut i = 0;
-    while i < 16 {
+    for i in 0..16 {
         objects[i] = object_of(text_entries::value(text, i));
-        i += 1;
     }
     objects
 }

@@ -12,7 +12,7 @@ use card::Record;
 fn byte_or(text: &[u8], key: usize, other: u8) -> u8
     ensures { result ≡ byte_or text.now key other }
 {
-    if text_entries::line_of(text, key) == 0 {
+    if text_entries::line_of(text, key).is_none() {
         return other;
     }
     text_hex::byte_at(text_entries::value(text, key), 0)
@@ -23,10 +23,8 @@ fn free_bytes(value: &[u8]) -> [u8; 12]
     ensures { result ≡ free_said value.now }
 {
     let mut free = [0u8; 12];
-    let mut i = 0;
-    while i < 12 {
+    for i in 0..12 {
         free[i] = text_hex::byte_at(value, i);
-        i += 1;
     }
     free
 }

@@ -6,6 +6,8 @@
 ghost use Rattle.std.specs.Prelude.{◌≡◌};
 ghost use Rattle.card_text.specs.Faults.{letters_taken, digits_due, fault_of_value};
 
+use card_text::Wrong;
+
 // Where the first letter stands that DIN 66003 lacks; where there is none, the end of the value.
 pub fn count_letters(value: &[u8]) -> usize
     ensures { result ≡ letters_taken value.now }
@@ -25,19 +27,19 @@ fn digits_due(key: usize) -> usize
     if key == card_lines::FREE { 24 } else { 2 }
 }
 
-// What is wrong with the value of a line with this key.
-pub fn fault_of_value(key: usize, value: &[u8]) -> u8
+// What is wrong with the value of a line with this key, where something is.
+pub fn fault_of_value(key: usize, value: &[u8]) -> Option<Wrong>
     ensures { result ≡ fault_of_value key value.now }
 {
     if key < card_lines::FIRST {
         if count_letters(value) < value.len() {
-            return 3;
+            return Some(Wrong::Letter);
         }
-        return 0;
+        return None;
     }
     if text_hex::is_hex(value, digits_due(key)) {
-        0
+        None
     } else {
-        4
+        Some(Wrong::Digits)
     }
 }

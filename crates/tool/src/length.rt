@@ -2,22 +2,18 @@
 ghost use Rattle.std.specs.Prelude.{◌<◌};
 
 use files::Outside;
-use lengths::ToldLength;
+use lengths::{Field, FieldError};
 
-// What a refusal's number means.
-fn explain<R: Outside>(rt: &R, number: u8) {
-    if number == 70 {
-        words::say(rt, b"the first byte is none of 00 to 7F, 81 and 82");
-    }
-    if number == 71 {
-        words::say(rt, b"the field is cut short, or there is no byte at all");
-    }
-    if number == 72 {
-        words::say(rt, b"a shorter form has room for this length");
+// What is amiss with the field.
+fn explain<R: Outside>(rt: &R, error: FieldError) {
+    match error {
+        FieldError::Other => words::say(rt, b"the first byte is none of 00 to 7F, 81 and 82"),
+        FieldError::Cut => words::say(rt, b"the field is cut short, or there is no byte at all"),
+        FieldError::Long => words::say(rt, b"a shorter form has room for this length"),
     }
 }
 
-fn print_length<R: Outside>(rt: &R, field: ToldLength) -> u8
+fn print_length<R: Outside>(rt: &R, field: Field) -> u8
     ensures { result < 4 }
 {
     let is_begun = files::write_all(rt, b"LENGTH ");
@@ -26,12 +22,12 @@ fn print_length<R: Outside>(rt: &R, field: ToldLength) -> u8
     words::written(rt, is_begun & is_told & is_ended)
 }
 
-fn print_refusal<R: Outside>(rt: &R, number: u8) -> u8
+fn print_refusal<R: Outside>(rt: &R, error: FieldError) -> u8
     ensures { result < 4 }
 {
-    explain(rt, number);
+    explain(rt, error);
     let is_begun = files::write_all(rt, b"REFUSED ");
-    let is_told = files::print_decimal(rt, number as u64);
+    let is_told = files::print_decimal(rt, error.number() as u64);
     let is_ended = files::write_all(rt, b" 0 00 0 0\n");
     if is_begun & is_told & is_ended {
         return words::REFUSED;
@@ -46,11 +42,10 @@ fn tell<R: Outside>(rt: &R, room: &[u8], count: usize) -> u8
     if room.len() < count {
         return words::misused(rt, b"length takes at most 4096 hex digits");
     }
-    let field = lengths_read::told(lengths_read::read_length(&room[..count]));
-    if field.number != 0 {
-        return print_refusal(rt, field.number);
+    match lengths_read::read_length(&room[..count]) {
+        Ok(field) => print_length(rt, field),
+        Err(error) => print_refusal(rt, error),
     }
-    print_length(rt, field)
 }
 
 fn tell_word<R: Outside>(rt: &R, word: &[u8]) -> u8

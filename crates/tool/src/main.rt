@@ -16,49 +16,23 @@ use std::io::Write;
 fn run<R: Outside>(rt: &R, name: &[u8]) -> u8
     ensures { result < 4 }
 {
-    if ground_parts::is_same(name, b"list") {
-        return list::run(rt);
+    match name {
+        b"list" => list::run(rt),
+        b"batch" => tool_batch::run(rt),
+        b"length" => length::run(rt),
+        b"show" => tool_show::run(rt),
+        b"make" => tool_make::run(rt),
+        b"day" => tool_day::run(rt),
+        b"tree" => tool_tree::run(rt),
+        b"front" => tool_front::run(rt),
+        b"diff" => tool_diff::run(rt),
+        b"plan" => tool_plan::run(rt),
+        b"check-plan" => tool_plan::run_check(rt),
+        b"fresher" => tool_fresher::run(rt),
+        b"host" => tool_host::run(rt),
+        b"table" => tool_table::run(rt),
+        _ => words::misused(rt, b"there is no such command"),
     }
-    if ground_parts::is_same(name, b"batch") {
-        return tool_batch::run(rt);
-    }
-    if ground_parts::is_same(name, b"length") {
-        return length::run(rt);
-    }
-    if ground_parts::is_same(name, b"show") {
-        return tool_show::run(rt);
-    }
-    if ground_parts::is_same(name, b"make") {
-        return tool_make::run(rt);
-    }
-    if ground_parts::is_same(name, b"day") {
-        return tool_day::run(rt);
-    }
-    if ground_parts::is_same(name, b"tree") {
-        return tool_tree::run(rt);
-    }
-    if ground_parts::is_same(name, b"front") {
-        return tool_front::run(rt);
-    }
-    if ground_parts::is_same(name, b"diff") {
-        return tool_diff::run(rt);
-    }
-    if ground_parts::is_same(name, b"plan") {
-        return tool_plan::run(rt);
-    }
-    if ground_parts::is_same(name, b"check-plan") {
-        return tool_plan::run_check(rt);
-    }
-    if ground_parts::is_same(name, b"fresher") {
-        return tool_fresher::run(rt);
-    }
-    if ground_parts::is_same(name, b"host") {
-        return tool_host::run(rt);
-    }
-    if ground_parts::is_same(name, b"table") {
-        return tool_table::run(rt);
-    }
-    words::misused(rt, b"there is no such command")
 }
 
 // Tells the status on descriptor 3, where that is open: the library opens files by their names alone, so it is named.

@@ -1,41 +1,19 @@
 // The listings of the cards of a piece.
-ghost use Rattle.std.specs.Prelude.{◌<◌, ◌≤◌};
-
 use crate::counts::Counts;
 use edition::Edition;
 use files::Outside;
 use itoa::Buffer;
 
-// Where the listings end, and how many cards were accepted and refused by then.
+// Where the listings end, and what was counted by then.
 #[derive(Clone, Copy)]
 pub(crate) struct Listed {
     pub size: usize,
-    pub accepted: u64,
-    pub refused: u64,
+    pub counts: Counts,
 }
 
-// A part of some bytes, and the empty part where there is none.
-fn part(bytes: &[u8], start: usize, end: usize) -> &[u8] {
-    if end > bytes.len() {
-        return &bytes[0..0];
-    }
-    if start > end {
-        return &bytes[0..0];
-    }
-    &bytes[start..end]
-}
-
-// Writes the first bytes of a room.
+// Writes the first bytes of a room; none where it has not so many.
 pub(crate) fn write_first<R: Outside>(rt: &R, room: &[u8], size: usize) -> bool {
-    files::write_all(rt, part(room, 0, size))
-}
-
-// Where the image at `at` ends, in a piece of this length: 256 bytes on, or with the piece.
-fn image_end(at: usize, length: usize) -> usize
-    requires { at < length }
-    ensures { (at < result) × (result ≤ length) }
-{
-    if length - at < 256 { length } else { at + 256 }
+    files::write_all(rt, room.get(..size).unwrap_or(b""))
 }
 
 // Puts the line with a card's number, where that is asked for.
@@ -63,11 +41,7 @@ fn put_card(
     let now = counts.counted(text[0] == b'A');
     let start = put_number(room, at, numbered, now.cards());
     let size = ground_room::put(room, start, &text[..length]);
-    Listed {
-        size,
-        accepted: now.accepted,
-        refused: now.refused,
-    }
+    Listed { size, counts: now }
 }
 
 // Puts the listings of all cards of a piece at the start of the room.
@@ -80,24 +54,10 @@ pub(crate) fn put_cards(
 ) -> Listed {
     let mut listed = Listed {
         size: 0,
-        accepted: before.accepted,
-        refused: before.refused,
+        counts: before,
     };
-    let mut at = 0;
-    while at < piece.len() {
-        let end = image_end(at, piece.len());
-        listed = put_card(
-            room,
-            listed.size,
-            edition,
-            part(piece, at, end),
-            numbered,
-            Counts {
-                accepted: listed.accepted,
-                refused: listed.refused,
-            },
-        );
-        at = end;
+    for image in piece.chunks(256) {
+        listed = put_card(room, listed.size, edition, image, numbered, listed.counts);
     }
     listed
 }

@@ -15,6 +15,11 @@ fn more(n: u64) -> u64 {
 }
 
 impl Counts {
+    pub(crate) const NONE: Counts = Counts {
+        accepted: 0,
+        refused: 0,
+    };
+
     pub(crate) fn counted(self, accepted: bool) -> Counts {
         if accepted {
             return Counts {
@@ -48,28 +53,21 @@ fn put_cards<R: Outside>(rt: &R, counts: Counts) {
 }
 
 // Says how far a run is, in a line that the next one replaces.
-pub(crate) fn say_progress<R: Outside>(rt: &R, progress: bool, accepted: u64, refused: u64) {
+pub(crate) fn say_progress<R: Outside>(rt: &R, progress: bool, counts: Counts) {
     if progress {
         put(rt, b"\rkvk: ");
-        put_cards(rt, Counts { accepted, refused });
+        put_cards(rt, counts);
         put(rt, b" so far");
     }
 }
 
 // Says the counts, and answers how the run ends.
-pub(crate) fn say_counts<R: Outside>(
-    rt: &R,
-    accepted: u64,
-    refused: u64,
-    path: &[u8],
-    progress: bool,
-) -> u8
+pub(crate) fn say_counts<R: Outside>(rt: &R, counts: Counts, path: &[u8], progress: bool) -> u8
     ensures { result < 4 }
 {
     if progress {
         put(rt, b"\r");
     }
-    let counts = Counts { accepted, refused };
     if counts.cards() == 0 {
         put(rt, b"kvk: there is no card in ");
         put(rt, path);

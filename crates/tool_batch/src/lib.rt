@@ -21,8 +21,7 @@ const PIECE: usize = 100 * 256;
 struct Stand {
     goes_on: bool,
     written: bool,
-    accepted: u64,
-    refused: u64,
+    counts: Counts,
 }
 
 // Reads a piece and writes its listings.
@@ -41,12 +40,11 @@ fn list_piece<R: Outside>(
     Stand {
         goes_on: written & (length == PIECE),
         written,
-        accepted: listed.accepted,
-        refused: listed.refused,
+        counts: listed.counts,
     }
 }
 
-// Nothing says that the input ends, so the loop counts its turns down, from a number that no run uses up.
+// Nothing says that the input ends, so the loop counts its turns, up to a number that no run reaches.
 fn list_all<R: Outside>(
     rt: &R,
     edition: Edition,
@@ -57,26 +55,14 @@ fn list_all<R: Outside>(
     let mut stand = Stand {
         goes_on: true,
         written: true,
-        accepted: 0,
-        refused: 0,
+        counts: Counts::NONE,
     };
-    let mut turns = u64::MAX;
-    while turns > 0 {
-        stand = list_piece(
-            rt,
-            edition,
-            numbered,
-            file,
-            Counts {
-                accepted: stand.accepted,
-                refused: stand.refused,
-            },
-        );
+    for _ in 0..u64::MAX {
+        stand = list_piece(rt, edition, numbered, file, stand.counts);
         if !stand.goes_on {
             return stand;
         }
-        counts::say_progress(rt, progress, stand.accepted, stand.refused);
-        turns -= 1;
+        counts::say_progress(rt, progress, stand.counts);
     }
     stand
 }
@@ -94,7 +80,7 @@ fn list_file<R: Outside>(rt: &R, edition: Edition, numbered: bool, progress: boo
     if !stand.written {
         return words::written(rt, false);
     }
-    counts::say_counts(rt, stand.accepted, stand.refused, &path[..length], progress)
+    counts::say_counts(rt, stand.counts, &path[..length], progress)
 }
 
 fn word_is<R: Outside>(rt: &R, i: usize, text: &[u8]) -> bool {

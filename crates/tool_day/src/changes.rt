@@ -28,13 +28,11 @@ fn read_cards<R: Outside>(rt: &R, count: usize, images: &mut [u8]) -> u8
     requires { count < 256 }
     ensures { result < 4 }
 {
-    let mut k: usize = 0;
-    while k < count {
+    for k in 0..count {
         let status = read_card(rt, k + 4, k, images);
         if status != words::DONE {
             return status;
         }
-        k += 1;
     }
     words::DONE
 }

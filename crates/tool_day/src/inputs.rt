@@ -18,21 +18,19 @@ pub(crate) fn write_file<R: Outside>(rt: &R, i: usize, room: &[u8], size: usize)
     files::write(rt, &path[..length], &room[..size])
 }
 
-// The number that word i writes in at most four digits; 10,000 where it is no such word.
-pub(crate) fn number_at<R: Outside>(rt: &R, i: usize) -> usize {
+// The number that word i writes in at most four digits, if it is such a word.
+pub(crate) fn number_at<R: Outside>(rt: &R, i: usize) -> Option<usize> {
     let mut word = [0u8; 4];
     let length = files::arg(rt, i, &mut word);
-    let mut number: usize = 0;
-    let mut k: usize = 0;
-    while k < 4 {
-        if k < length {
-            let digit = word[k];
-            if (digit < b'0') | (digit > b'9') {
-                return 10000;
-            }
-            number = number % 1000 * 10 + (digit % 16) as usize;
-        }
-        k += 1;
+    if length == 0 {
+        return None;
     }
-    if length == 0 { 10000 } else { number }
+    let mut number: usize = 0;
+    for digit in &word[..length] {
+        let b'0'..=b'9' = digit else {
+            return None;
+        };
+        number = number % 1000 * 10 + (*digit - b'0') as usize;
+    }
+    Some(number)
 }

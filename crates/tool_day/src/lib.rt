@@ -16,25 +16,17 @@ use files::Outside;
 fn run_command<R: Outside>(rt: &R, name: &[u8], words: usize) -> u8
     ensures { result < 4 }
 {
-    if (words > 3) & ground_parts::is_same(name, b"build") {
-        return changes::build(rt, words);
+    match (name, words) {
+        (b"build", 4..) => changes::build(rt, words),
+        (b"add", 5) => changes::add(rt),
+        (b"list", 4) => looks::list(rt),
+        (b"find", 5) => looks::find(rt),
+        (b"get", 6) => looks::get(rt),
+        _ => words::misused(
+            rt,
+            b"day takes build OUT CARD.., add FILE CARD, list FILE, find FILE NUMBER or get FILE POSITION OUT",
+        ),
     }
-    if (words == 5) & ground_parts::is_same(name, b"add") {
-        return changes::add(rt);
-    }
-    if (words == 4) & ground_parts::is_same(name, b"list") {
-        return looks::list(rt);
-    }
-    if (words == 5) & ground_parts::is_same(name, b"find") {
-        return looks::find(rt);
-    }
-    if (words == 6) & ground_parts::is_same(name, b"get") {
-        return looks::get(rt);
-    }
-    words::misused(
-        rt,
-        b"day takes build OUT CARD.., add FILE CARD, list FILE, find FILE NUMBER or get FILE POSITION OUT",
-    )
 }
 
 pub fn run<R: Outside>(rt: &R) -> u8

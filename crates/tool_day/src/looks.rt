@@ -41,15 +41,8 @@ fn show_cards<R: Outside>(rt: &R, count: usize, file: &[u8]) -> u8
     ensures { result < 4 }
 {
     let mut is_written = true;
-    let mut k: usize = 0;
-    while k < count {
-        if k >= file.len() / 256 {
-            return words::FAILED;
-        }
-        let at = k * 256;
-        let end = at + 256;
-        is_written = is_written & show_card(rt, k, &file[at..end]);
-        k += 1;
+    for (k, image) in file.chunks_exact(256).take(count).enumerate() {
+        is_written = is_written & show_card(rt, k, image);
     }
     words::written(rt, is_written)
 }
@@ -130,10 +123,9 @@ fn get_position<R: Outside>(rt: &R, file: &[u8], position: usize) -> u8
 pub(crate) fn get<R: Outside>(rt: &R) -> u8
     ensures { result < 4 }
 {
-    let position = inputs::number_at(rt, 4);
-    if position > 9999 {
+    let Some(position) = inputs::number_at(rt, 4) else {
         return words::misused(rt, b"day get takes a position of at most four digits");
-    }
+    };
     let Some(mut source) = inputs::open_at(rt, 3) else {
         return words::FAILED;
     };

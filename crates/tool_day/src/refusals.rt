@@ -26,12 +26,9 @@ pub(crate) fn say_image<R: Outside>(rt: &R, position: usize, image: &[u8]) {
 
 // The same, of images that lie end to end.
 fn say_position<R: Outside>(rt: &R, position: usize, images: &[u8]) {
-    if position >= images.len() / 256 {
-        return;
+    if let Some(image) = images.chunks_exact(256).nth(position) {
+        say_image(rt, position, image);
     }
-    let at = position * 256;
-    let end = at + 256;
-    say_image(rt, position, &images[at..end]);
 }
 
 // Writes the line of a refusal, and answers the status of that.

@@ -69,14 +69,9 @@ fn put_value<R: Outside>(rt: &R, item: Object) {
 fn row_of(tag: u8) -> usize
     ensures { result < 16 }
 {
-    let mut i: usize = 0;
-    while i < 15 {
-        if edition_tags::tag_of(i) == tag {
-            return i;
-        }
-        i += 1;
-    }
-    i
+    (0..15)
+        .find(|i| edition_tags::tag_of(*i) == tag)
+        .unwrap_or(15)
 }
 
 // The line of an object that differs. Answers whether its end was written.
@@ -131,15 +126,13 @@ fn write_entries<R: Outside>(
     second: &[u8],
     two: Record,
 ) -> bool {
-    let mut i: usize = 0;
-    while i < 30 {
-        if entries[i] == 0 {
+    for entry in entries {
+        if entry == 0 {
             return true;
         }
-        if !write_entry(rt, entries[i], first, one, second, two) {
+        if !write_entry(rt, entry, first, one, second, two) {
             return false;
         }
-        i += 1;
     }
     true
 }

@@ -74,37 +74,37 @@ fn print_file<R: Outside>(rt: &R, i: usize, fund: bool, svg: bool) -> u8
     print_card(rt, &mut file, fund, svg)
 }
 
-// The option that word i is: 1 --fund, 2 --svg, 0 another word.
-fn option_at<R: Outside>(rt: &R, i: usize) -> u64
-    ensures { result < 3 }
-{
+// What an option asks for: the fund name, or a picture.
+#[derive(Clone, Copy)]
+enum Asked {
+    Fund,
+    Svg,
+}
+
+// What word i asks for, if it is an option.
+fn option_at<R: Outside>(rt: &R, i: usize) -> Option<Asked> {
     let mut word = [0u8; 16];
     let length = files::arg(rt, i, &mut word);
-    if ground_parts::is_same(&word[..length], b"--fund") {
-        return 1;
+    match &word[..length] {
+        b"--fund" => Some(Asked::Fund),
+        b"--svg" => Some(Asked::Svg),
+        _ => None,
     }
-    if ground_parts::is_same(&word[..length], b"--svg") {
-        return 2;
-    }
-    0
 }
 
 pub fn run<R: Outside>(rt: &R) -> u8
     ensures { result < 4 }
 {
-    let words = files::arg_count(rt);
-    if words == 3 {
-        return print_file(rt, 2, false, false);
+    match (files::arg_count(rt), option_at(rt, 2), option_at(rt, 3)) {
+        (3, _, _) => print_file(rt, 2, false, false),
+        (4, Some(Asked::Fund), _) => print_file(rt, 3, true, false),
+        (4, Some(Asked::Svg), _) => print_file(rt, 3, false, true),
+        (5, Some(Asked::Fund), Some(Asked::Svg)) | (5, Some(Asked::Svg), Some(Asked::Fund)) => {
+            print_file(rt, 4, true, true)
+        }
+        _ => words::misused(
+            rt,
+            b"front takes one file, and before it --fund, --svg or both",
+        ),
     }
-    let first = option_at(rt, 2);
-    if (words == 4) & (first != 0) {
-        return print_file(rt, 3, first == 1, first == 2);
-    }
-    if (words == 5) & (first + option_at(rt, 3) == 3) {
-        return print_file(rt, 4, true, true);
-    }
-    words::misused(
-        rt,
-        b"front takes one file, and before it --fund, --svg or both",
-    )
 }

@@ -15,10 +15,8 @@ fn put_line(room: &mut [u8], bytes: &[u8], count: usize) -> usize
     ensures taken { result ≡ length (take result room.new) }
 {
     let mut place = 0;
-    let mut i = 0;
-    while i < count {
+    for i in 0..count {
         place = ground_digits::put_hex(room, place, ground_parts::byte_at(bytes, i));
-        i += 1;
     }
     ground_room::put_byte(room, place, b'\n')
 }

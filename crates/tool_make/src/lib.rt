@@ -12,10 +12,10 @@ use files::Outside;
 
 // Writes the first bytes of a room.
 fn write_first<R: Outside>(rt: &R, room: &[u8], size: usize) -> bool {
-    if size > room.len() {
-        return false;
+    match room.get(..size) {
+        Some(part) => files::write_all(rt, part),
+        None => false,
     }
-    files::write_all(rt, &room[..size])
 }
 
 // Puts a blank and a number.
@@ -89,8 +89,7 @@ fn make_card<R: Outside>(rt: &R, edition: Edition, text: &[u8]) -> u8
 fn make<R: Outside>(rt: &R, edition: Edition, text: &[u8]) -> u8
     ensures { result < 4 }
 {
-    let fault = text_checks::check(text);
-    if fault.number != 0 {
+    if let Some(fault) = text_checks::check(text) {
         wrong::say_fault(rt, text, fault);
         return words::REFUSED;
     }

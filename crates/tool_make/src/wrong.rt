@@ -1,6 +1,6 @@
 // What is wrong with a text, or with the record that it makes, in words: one line on standard error, with the line of the text.
 use card::{Object, Record, Refusal};
-use card_text::Fault;
+use card_text::{Fault, Wrong};
 use files::Outside;
 
 const FIRST: usize = 16;
@@ -13,8 +13,8 @@ fn put<R: Outside>(rt: &R, text: &[u8]) {
 
 // The first bytes of a room.
 fn put_first<R: Outside>(rt: &R, room: &[u8], size: usize) {
-    if size <= room.len() {
-        put(rt, &room[..size]);
+    if let Some(part) = room.get(..size) {
+        put(rt, part);
     }
 }
 
@@ -32,14 +32,14 @@ fn put_byte<R: Outside>(rt: &R, byte: u8) {
 }
 
 // The text's name, and the line, where there is one.
-fn put_line<R: Outside>(rt: &R, line: usize) {
+fn put_line<R: Outside>(rt: &R, line: Option<usize>) {
     let mut path = [0u8; 4096];
     let length = files::arg(rt, 3, &mut path);
     put(rt, b"kvk: ");
     put(rt, &path[..length]);
-    if line != 0 {
+    if let Some(number) = line {
         put(rt, b", line ");
-        put_number(rt, line);
+        put_number(rt, number);
     }
     put(rt, b": ");
 }
@@ -79,35 +79,30 @@ fn put_letter<R: Outside>(rt: &R, value: &[u8], place: usize) {
 
 // Says what is wrong with a line.
 pub(crate) fn say_fault<R: Outside>(rt: &R, text: &[u8], fault: Fault) {
-    let number = fault.number;
-    put_line(rt, fault.line);
-    match number {
-        1 => put(rt, b"no object has this name"),
-        2 => put(rt, b"an earlier line has this already"),
-        3 => put_letter(rt, text_entries::value(text, fault.key), fault.place),
-        4 => put_name(rt, fault.key),
-        _ => put(rt, b"the checksum is computed, and no line sets it"),
-    }
-    match number {
-        3 => put(rt, b"is no letter of DIN 66003\n"),
-        4 => put(
-            rt,
-            b" is due in hex digits, two for a byte: 24 for the free bytes, and else 2\n",
-        ),
-        _ => put(rt, b"\n"),
+    put_line(rt, Some(fault.line));
+    match fault.wrong {
+        Wrong::Name => put(rt, b"no object has this name\n"),
+        Wrong::Again => put(rt, b"an earlier line has this already\n"),
+        Wrong::Letter => {
+            put_letter(rt, text_entries::value(text, fault.key), fault.place);
+            put(rt, b"is no letter of DIN 66003\n");
+        }
+        Wrong::Digits => {
+            put_name(rt, fault.key);
+            put(
+                rt,
+                b" is due in hex digits, two for a byte: 24 for the free bytes, and else 2\n",
+            );
+        }
+        Wrong::Checksum => put(rt, b"the checksum is computed, and no line sets it\n"),
     }
 }
 
 // The row with this tag, or 16.
 fn row_of(tag: u8) -> usize {
-    let mut row = 0;
-    while row < 16 {
-        if edition_tags::tag_of(row) == tag {
-            return row;
-        }
-        row += 1;
-    }
-    row
+    (0..16)
+        .position(|row| edition_tags::tag_of(row) == tag)
+        .unwrap_or(16)
 }
 
 fn object_at(content: Record, row: usize) -> Object {
@@ -188,7 +183,7 @@ pub(crate) fn say_refusal<R: Outside>(rt: &R, text: &[u8], content: Record, refu
     match number {
         3 => say_end(rt, text, content.first, content.last),
         4 => {
-            put_line(rt, 0);
+            put_line(rt, None);
             put(
                 rt,
                 b"the objects are too short or too long together: a template has a length of 70 to 212\n",

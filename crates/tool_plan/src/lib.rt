@@ -26,15 +26,10 @@ fn write_step<R: Outside>(rt: &R, word: u32) -> bool {
 
 // Writes the first `count` steps, a line for each.
 fn write_steps<R: Outside>(rt: &R, steps: &[u32], count: usize) -> bool {
-    let mut i = 0;
-    while i < steps.len() {
-        if i == count {
-            return true;
-        }
-        if !write_step(rt, steps[i]) {
+    for step in steps.iter().take(count) {
+        if !write_step(rt, *step) {
             return false;
         }
-        i += 1;
     }
     true
 }
@@ -119,13 +114,12 @@ fn check_text<R: Outside>(rt: &R, edition: Edition, old: &[u8], new: &[u8], text
     ensures { result < 4 }
 {
     let mut steps = [0u32; OFFERED];
-    let count = lines::read_steps(text, &mut steps);
-    if count > OFFERED {
+    let Some(count) = lines::read_steps(text, &mut steps) else {
         return words::misused(
             rt,
             b"a line of steps is an address, a blank, and a byte as two hex digits",
         );
-    }
+    };
     check(rt, edition, old, new, &steps[..count])
 }
 

@@ -1,8 +1,5 @@
 // Steps as lines: an address in decimal, a blank, and a byte as two hex digits.
-ghost use Rattle.std.specs.Prelude.{◌≤◌, ◌<◌, length};
-
-// No step.
-const NONE: u32 = u32::MAX;
+ghost use Rattle.std.specs.Prelude.{◌≤◌, ◌<◌, length, IfSome};
 
 // The address with one more digit; 65535 where it would be more.
 fn with_digit(address: u32, digit: u8) -> u32
@@ -12,71 +9,42 @@ fn with_digit(address: u32, digit: u8) -> u32
     if more > 65535 { 65535 } else { more }
 }
 
-// The number that the bytes from `at` to `end` write, or NONE.
-fn address_at(text: &[u8], at: usize, end: usize) -> u32 {
+// The number that some digits write.
+fn address_of(digits: &[u8]) -> Option<u32> {
     let mut address: u32 = 0;
-    let mut i = at;
-    while i < end {
-        let byte = ground_parts::byte_at(text, i);
-        if byte < b'0' {
-            return NONE;
-        }
-        if byte > b'9' {
-            return NONE;
-        }
-        address = with_digit(address, byte - b'0');
-        i += 1;
+    for byte in digits {
+        let b'0'..=b'9' = byte else {
+            return None;
+        };
+        address = with_digit(address, *byte - b'0');
     }
-    address
+    Some(address)
 }
 
 fn step_to(address: u32, byte: u8) -> u32 {
     (address % 65536) * 256 + byte as u32
 }
 
-// The step of the line from `at` to `end`, or NONE.
-fn step_at(text: &[u8], at: usize, end: usize) -> u32 {
-    if end < 4 {
-        return NONE;
+// The step of a line, if it has one.
+fn step_of(line: &[u8]) -> Option<u32> {
+    let [digits @ .., b' ', high, low] = line else {
+        return None;
+    };
+    if digits.is_empty() {
+        return None;
     }
-    if end - 4 < at {
-        return NONE;
-    }
-    if ground_parts::byte_at(text, end - 3) != b' ' {
-        return NONE;
-    }
-    let digits = [
-        ground_parts::byte_at(text, end - 2),
-        ground_parts::byte_at(text, end - 1),
-    ];
     let mut byte = [0u8; 1];
-    if !words::put_hex_word(&mut byte, &digits) {
-        return NONE;
+    if !words::put_hex_word(&mut byte, &[*high, *low]) {
+        return None;
     }
-    let address = address_at(text, at, end - 3);
-    if address == NONE {
-        return NONE;
-    }
-    step_to(address, ground_parts::byte_at(&byte, 0))
-}
-
-// Where the line that begins at `at` ends.
-fn line_end(text: &[u8], at: usize) -> usize
-    requires { at ≤ length text.now }
-    ensures { (at ≤ result) × (result ≤ length text.now) }
-{
-    let mut i = at;
-    while i < text.len() {
-        if text[i] == b'\n' {
-            return i;
-        }
-        i += 1;
-    }
-    i
+    Some(step_to(address_of(digits)?, byte[0]))
 }
 
 // Puts a word at a place of the room, if there is one. Answers the place behind it.
-fn put_word(room: &mut [u32], at: usize, word: u32) -> usize {
+fn put_word(room: &mut [u32], at: usize, word: u32) -> usize
+    requires { at ≤ length room.old }
+    ensures { result ≤ length room.new }
+{
     if at >= room.len() {
         return at;
     }
@@ -84,18 +52,14 @@ fn put_word(room: &mut [u32], at: usize, word: u32) -> usize {
     at + 1
 }
 
-// Puts the step of each line into the room, as many as it holds. Answers how many, or the largest number where a line has no step.
-pub(crate) fn read_steps(text: &[u8], room: &mut [u32]) -> usize {
+// Puts the step of each line into the room, as many as it holds. Answers how many, or nothing where a line has no step.
+pub(crate) fn read_steps(text: &[u8], room: &mut [u32]) -> Option<usize>
+    ensures { IfSome result (λ count. count ≤ length room.new) }
+{
     let mut count = 0;
-    let mut at = 0;
-    while at < text.len() {
-        let end = line_end(text, at);
-        let word = step_at(text, at, end);
-        if word == NONE {
-            return usize::MAX;
-        }
-        count = put_word(room, count, word);
-        at = end + 1;
+    for line in text.split_inclusive(|b| *b == b'\n') {
+        let step = step_of(line.strip_suffix(b"\n").unwrap_or(line))?;
+        count = put_word(room, count, step);
     }
-    count
+    Some(count)
 }

@@ -8,18 +8,12 @@ const FREE: usize = 17;
 
 const LAST: usize = 18;
 
-// A byte of a key: an underscore for a blank.
-fn joined(byte: u8) -> u8 {
-    if byte == b' ' { b'_' } else { byte }
-}
-
-// Puts an underscore for each blank of a room from `at` to `end`.
-fn join(room: &mut [u8], at: usize, end: usize) {
-    let mut i = at;
-    while i < end {
-        let byte = joined(ground_parts::byte_at(room, i));
-        ground_room::put_byte(room, i, byte);
-        i += 1;
+// Puts an underscore for each blank of a part.
+fn join(part: &mut [u8]) {
+    for byte in part {
+        if *byte == b' ' {
+            *byte = b'_';
+        }
     }
 }
 
@@ -27,7 +21,9 @@ fn join(room: &mut [u8], at: usize, end: usize) {
 fn put_key(room: &mut [u8], at: usize, key: usize) -> usize {
     let start = ground_room::put(room, at, b",\n  \"");
     let end = line_names::put_name(room, start, key);
-    join(room, start, end);
+    if let Some(name) = room.get_mut(start..end) {
+        join(name);
+    }
     ground_room::put(room, end, b"\": \"")
 }
 
@@ -42,10 +38,8 @@ fn put_escape(room: &mut [u8], at: usize, byte: u8) -> usize {
 // Puts a text with a backslash before each quotation mark and backslash.
 fn put_escaped(room: &mut [u8], at: usize, text: &[u8]) -> usize {
     let mut place = at;
-    let mut i = 0;
-    while i < text.len() {
-        place = put_escape(room, place, text[i]);
-        i += 1;
+    for byte in text {
+        place = put_escape(room, place, *byte);
     }
     place
 }
@@ -79,11 +73,8 @@ fn put_object(room: &mut [u8], at: usize, row: usize, item: Object) -> usize {
 
 fn put_objects(room: &mut [u8], at: usize, content: Record) -> usize {
     let mut place = at;
-    let mut i: usize = 0;
-    while i < 16 {
-        let item = content.objects[i];
-        place = put_object(room, place, i, item);
-        i += 1;
+    for (row, item) in content.objects.iter().enumerate() {
+        place = put_object(room, place, row, *item);
     }
     place
 }

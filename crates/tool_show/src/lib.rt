@@ -26,10 +26,10 @@ const JSON: u8 = 2;
 fn write_out<R: Outside>(rt: &R, room: &[u8], size: usize) -> u8
     ensures { result < 4 }
 {
-    if size > room.len() {
-        return words::written(rt, false);
+    match room.get(..size) {
+        Some(part) => words::written(rt, files::write_all(rt, part)),
+        None => words::written(rt, false),
     }
-    words::written(rt, files::write_all(rt, values::part(room, 0, size)))
 }
 
 // Puts a record in the form that was asked for.

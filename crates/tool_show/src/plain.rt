@@ -31,11 +31,8 @@ fn put_object(room: &mut [u8], at: usize, row: usize, item: Object) -> usize {
 
 fn put_objects(room: &mut [u8], at: usize, content: Record) -> usize {
     let mut place = at;
-    let mut i: usize = 0;
-    while i < 16 {
-        let item = content.objects[i];
-        place = put_object(room, place, i, item);
-        i += 1;
+    for (row, item) in content.objects.iter().enumerate() {
+        place = put_object(room, place, row, *item);
     }
     place
 }

@@ -3,13 +3,7 @@ use card::Object;
 
 // A part of some bytes, and the empty part where there is none.
 pub(crate) fn part(bytes: &[u8], start: usize, end: usize) -> &[u8] {
-    if end > bytes.len() {
-        return &bytes[0..0];
-    }
-    if start > end {
-        return &bytes[0..0];
-    }
-    &bytes[start..end]
+    bytes.get(start..end).unwrap_or(&[])
 }
 
 // Puts the letters of a value in UTF-8.
@@ -51,10 +45,8 @@ pub(crate) fn put_validity(room: &mut [u8], at: usize, item: Object) -> usize {
 // Puts the free bytes in hex digits.
 pub(crate) fn put_free(room: &mut [u8], at: usize, free: [u8; 12]) -> usize {
     let mut place = at;
-    let mut i = 0;
-    while i < 12 {
-        place = ground_digits::put_hex(room, place, free[i]);
-        i += 1;
+    for byte in free {
+        place = ground_digits::put_hex(room, place, byte);
     }
     place
 }

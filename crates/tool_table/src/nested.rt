@@ -28,16 +28,14 @@ fn put_cell(room: &mut [u8], at: usize, byte: u8, is_last: bool) -> usize {
 }
 
 // Puts an image as eight lines of hex digits.
-fn put_image(room: &mut [u8], image: &[u8]) {
+fn put_image(room: &mut [u8], image: &[u8; 256]) {
     let mut place = 0;
-    let mut i: usize = 0;
-    while i < 256 {
-        place = put_cell(room, place, ground_parts::byte_at(image, i), i % 32 == 31);
-        i += 1;
+    for (i, byte) in image.iter().enumerate() {
+        place = put_cell(room, place, *byte, i % 32 == 31);
     }
 }
 
-fn write_image<R: Outside>(rt: &R, image: &[u8]) -> u8
+fn write_image<R: Outside>(rt: &R, image: &[u8; 256]) -> u8
     ensures { result < 4 }
 {
     let mut room = [0u8; 520];

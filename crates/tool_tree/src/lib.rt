@@ -6,7 +6,7 @@
 ghost use Rattle.std.specs.Prelude.{◌<◌};
 
 use files::Outside;
-use tree::TreeAnswer;
+use tree::Refusal;
 
 fn write<R: Outside>(rt: &R, text: &[u8]) -> bool {
     files::write_all(rt, text)
@@ -14,34 +14,27 @@ fn write<R: Outside>(rt: &R, text: &[u8]) -> bool {
 
 // What a refusal's number means.
 fn explain<R: Outside>(rt: &R, number: u8) {
-    if number == 50 {
-        words::say(rt, b"the tag is 00, or its low five bits are all ones");
-    }
-    if number == 51 {
-        words::say(rt, b"this is no length field, or it is cut short");
-    }
-    if number == 52 {
-        words::say(
+    match number {
+        50 => words::say(rt, b"the tag is 00, or its low five bits are all ones"),
+        51 => words::say(rt, b"this is no length field, or it is cut short"),
+        52 => words::say(
             rt,
             b"the value goes past the end of the list that it stands in",
-        );
-    }
-    if number == 53 {
-        words::say(rt, b"the object is deeper than 6");
-    }
-    if number == 54 {
-        words::say(rt, b"there are more than 4096 bytes");
+        ),
+        53 => words::say(rt, b"the object is deeper than 6"),
+        54 => words::say(rt, b"there are more than 4096 bytes"),
+        _ => {}
     }
 }
 
-fn print_refusal<R: Outside>(rt: &R, answer: TreeAnswer) -> u8
+fn print_refusal<R: Outside>(rt: &R, refusal: Refusal) -> u8
     ensures { result < 4 }
 {
-    explain(rt, answer.number);
+    explain(rt, refusal.number);
     let is_begun = write(rt, b"REFUSED ");
-    let is_told = files::print_decimal(rt, answer.number as u64);
+    let is_told = files::print_decimal(rt, refusal.number as u64);
     let is_between = write(rt, b" ");
-    let is_placed = files::print_decimal(rt, answer.place as u64);
+    let is_placed = files::print_decimal(rt, refusal.place as u64);
     let is_ended = write(rt, b" 00 0 0\n");
     if is_begun & is_told & is_between & is_placed & is_ended {
         return words::REFUSED;
@@ -50,22 +43,13 @@ fn print_refusal<R: Outside>(rt: &R, answer: TreeAnswer) -> u8
 }
 
 fn print_indent<R: Outside>(rt: &R, depth: u16) {
-    let mut level = 1;
-    while level < depth {
+    for _ in 1..depth {
         write(rt, b"  ");
-        level += 1;
     }
 }
 
 fn is_text(value: &[u8]) -> bool {
-    let mut i = 0;
-    while i < value.len() {
-        if (value[i] < 0x20) | (value[i] > 0x7E) {
-            return false;
-        }
-        i += 1;
-    }
-    i > 0
+    !value.is_empty() && value.iter().all(|b| (*b >= 0x20) & (*b <= 0x7E))
 }
 
 // The value of an object whose tag stands at `at`, where it is text of at most 32 bytes: its length then takes one byte.
@@ -112,12 +96,10 @@ fn print_object<R: Outside>(rt: &R, bytes: &[u8], room: &[u16], object: u16) -> 
 fn print_objects<R: Outside>(rt: &R, bytes: &[u8], room: &[u16], count: u16) -> u8
     ensures { result < 4 }
 {
-    let mut object = 0;
-    while object < count {
+    for object in 0..count {
         if !print_object(rt, bytes, room, object) {
             return words::written(rt, false);
         }
-        object += 1;
     }
     words::DONE
 }
@@ -126,11 +108,10 @@ fn list_bytes<R: Outside>(rt: &R, bytes: &[u8]) -> u8
     ensures { result < 4 }
 {
     let mut room = [0u16; 8192];
-    let answer = tree_list::list_tree(bytes, &mut room);
-    if answer.number != 0 {
-        return print_refusal(rt, answer);
+    match tree_list::list_tree(bytes, &mut room) {
+        Ok(count) => print_objects(rt, bytes, &room, count),
+        Err(refusal) => print_refusal(rt, refusal),
     }
-    print_objects(rt, bytes, &room, answer.count)
 }
 
 fn list_file<R: Outside>(rt: &R, path: &[u8]) -> u8

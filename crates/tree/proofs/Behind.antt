@@ -6,23 +6,24 @@ use mathlib.Core.Bool.{Bool, true, false, cond}
 use mathlib.Core.List.{List, [], ◌∷◌, ◌++◌}
 use lib.Dec.{leb, eqb}
 use lib.ListN.{length, take, drop}
-use Rattle.lengths.specs.declared.Length.{Length}
-use Rattle.lengths.specs.declared.Length.TheVariants as L
-use Rattle.lengths.specs.Lengths.{behind81, behind82, length_read, length_told}
+use Rattle.std.specs.Prelude.{Result, Ok, Err}
+use Rattle.lengths.specs.declared.Field.{Field}
+use Rattle.lengths.specs.declared.FieldError.{FieldError}
+use Rattle.lengths.specs.declared.FieldError.TheVariants as L
+use Rattle.lengths.specs.Lengths.{read, behind81, behind82, length_read, length_told}
+use Rattle.lengths.proofs.Laws.{number_some}
 use Rattle.tree.specs.Trees.{Below}
 
 -- ---- a field takes at least a byte, and lies in the bytes
-abbrev Used : List ℕ → Length → Type 0
-Used s (L.Read n u) = (0 < u) × (u ≤ length s)
-Used s L.Other = Unit {0}
-Used s L.Cut = Unit {0}
-Used s L.Long = Unit {0}
+abbrev Used : List ℕ → Result Field FieldError → Type 0
+Used s (Ok f) = (0 < f.used) × (f.used ≤ length s)
+Used s (Err e) = Unit {0}
 
 used81 : (b : ℕ) (r : List ℕ) → Used (b ∷ r) (behind81 r)
 used81 b [] = tt
 used81 b (n ∷ r) = go (leb n 127)
   where
-    go : (p : Bool) → Used (b ∷ n ∷ r) (cond p L.Long (L.Read n 2))
+    go : (p : Bool) → Used (b ∷ n ∷ r) (cond p (Err L.Long) (read n 2))
     go true = tt
     go false = (omega arith, omega arith)
 
@@ -31,7 +32,7 @@ used82 b [] = tt
 used82 b (x ∷ []) = tt
 used82 b (x ∷ y ∷ r) = go (eqb x 0)
   where
-    go : (p : Bool) → Used (b ∷ x ∷ y ∷ r) (cond p L.Long (L.Read (x * 256 + y) 3))
+    go : (p : Bool) → Used (b ∷ x ∷ y ∷ r) (cond p (Err L.Long) (read (x * 256 + y) 3))
     go true = tt
     go false = (omega arith, omega arith)
 
@@ -40,23 +41,21 @@ unfolding length_read
 used [] = tt
 used (b ∷ r) = go (leb b 127) (eqb b 0x81) (eqb b 0x82)
   where
-    go : (p q t : Bool) → Used (b ∷ r) (cond p (L.Read b 1) (cond q (behind81 r) (cond t (behind82 r) L.Other)))
+    go : (p q t : Bool) → Used (b ∷ r) (cond p (read b 1) (cond q (behind81 r) (cond t (behind82 r) (Err L.Other))))
     go true q t = (omega arith, omega arith)
     go false true t = used81 b r
     go false false true = used82 b r
     go false false false = tt
 
-pub field_in : (r : List ℕ) (n u : ℕ) → length_read r ≡ L.Read n u → (0 < u) × (u ≤ length r)
+pub field_in : (r : List ℕ) (n u : ℕ) → length_read r ≡ read n u → (0 < u) × (u ≤ length r)
 field_in r n u e = rw e at (used r)
 
 -- ---- what is told with the number 0 was read
-pub told_read : (l : Length) → (length_told l).number ≡ 0 → l ≡ L.Read (length_told l).length (length_told l).used
-told_read (L.Read n u) e = refl
-told_read L.Other e = absurd (omega arith)
-told_read L.Cut e = absurd (omega arith)
-told_read L.Long e = absurd (omega arith)
+pub told_read : (l : Result Field FieldError) → (length_told l).number ≡ 0 → l ≡ read (length_told l).length (length_told l).used
+told_read (Ok f) e = refl
+told_read (Err x) e = absurd (number_some x e)
 
-pub read_told : (l : Length) (n u : ℕ) → l ≡ L.Read n u → (length_told l).number ≡ 0
+pub read_told : (l : Result Field FieldError) (n u : ℕ) → l ≡ read n u → (length_told l).number ≡ 0
 read_told l n u e = rw e
 
 -- ---- parts of bytes are bytes

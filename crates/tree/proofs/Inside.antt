@@ -7,11 +7,12 @@ use mathlib.Core.List.{List}
 use borrow.Author.Tests.{lt-ltb, le-ltb, ltb-false, eq-eqb, ne_eqb, eqb-true}
 use lib.Dec.{ltb, eqb}
 use lib.ListN.{length, get_or, drop, length-drop}
+use Rattle.std.specs.Prelude.{Result, Ok, Err}
 use Rattle.lengths.specs.declared.ToldLength.{ToldLength}
 use Rattle.lengths.specs.Lengths.{length_read}
 use Rattle.tree.specs.declared.Head.{Head}
-use Rattle.tree.specs.declared.Head.TheVariants.{Object, Refused}
-use Rattle.tree.specs.Heads.{bad_tag, field_behind, on_field, head_at, head_for}
+use Rattle.tree.specs.declared.Refusal.{Refusal}
+use Rattle.tree.specs.Heads.{bad_tag, found, refuse, field_behind, on_field, head_at, head_for}
 use Rattle.tree.proofs.Behind.{field_in, told_read}
 
 -- what holds on both sides of a test
@@ -20,9 +21,9 @@ either_way P true x y f g = f refl
 either_way P false x y f g = g refl
 
 -- an object's value starts behind its tag, and ends in s
-abbrev pub Inside : List ℕ → Head → Type 0
-Inside s (Object t start n) = (0 < start) × (start + n ≤ length s)
-Inside s (Refused x p) = Unit {0}
+abbrev pub Inside : List ℕ → Result Head Refusal → Type 0
+Inside s (Ok h) = (0 < h.start) × (h.start + h.length ≤ length s)
+Inside s (Err e) = Unit {0}
 
 on_field_lem : (s : List ℕ) (at : ℕ) (f : ToldLength) → (f.number ≡ 0 → f.used ≤ length (drop 1 s)) → 0 < length s → Inside s (on_field f s at)
 on_field_lem s at f w p =
@@ -40,9 +41,9 @@ inside_head s at d p =
     on_field_lem s at (field_behind s) (λ z. (field_in (drop 1 s) (field_behind s).length (field_behind s).used (told_read (length_read (drop 1 s)) z)).1) p))
 
 -- an object is at most six deep
-abbrev pub Shallow : ℕ → Head → Type 0
-Shallow d (Object t start n) = d ≤ 6
-Shallow d (Refused x p) = Unit {0}
+abbrev pub Shallow : ℕ → Result Head Refusal → Type 0
+Shallow d (Ok h) = d ≤ 6
+Shallow d (Err e) = Unit {0}
 
 pub shallow_head : (s : List ℕ) (at d : ℕ) → Shallow d (head_at s at d)
 unfolding head_at
@@ -54,26 +55,26 @@ shallow_head s at d =
 
 -- ---- the head by its tests
 module _ (s : List ℕ) (at d : ℕ) where
-  pub head_bad : bad_tag (get_or s 0 0) ≡ true → head_at s at d ≡ Refused 50 at
+  pub head_bad : bad_tag (get_or s 0 0) ≡ true → head_at s at d ≡ refuse 50 at
   unfolding head_at
   head_bad e = rw e
 
   module _ (good : bad_tag (get_or s 0 0) ≡ false) where
-    pub head_deep : 6 < d → head_at s at d ≡ Refused 53 at
+    pub head_deep : 6 < d → head_at s at d ≡ refuse 53 at
     unfolding head_at
     head_deep e = rw (good, lt-ltb 6 d e)
 
     module _ (flat : d ≤ 6) where
-      pub head_field : ((field_behind s).number ≡ 0 → ⊥) → head_at s at d ≡ Refused 51 (at + 1)
+      pub head_field : ((field_behind s).number ≡ 0 → ⊥) → head_at s at d ≡ refuse 51 (at + 1)
       unfolding head_at
       head_field e = rw (good, le-ltb 6 d flat, ne_eqb (field_behind s).number 0 e)
 
-      pub head_long : (field_behind s).number ≡ 0 → length s - ((field_behind s).used + 1) < (field_behind s).length → head_at s at d ≡ Refused 52 at
+      pub head_long : (field_behind s).number ≡ 0 → length s - ((field_behind s).used + 1) < (field_behind s).length → head_at s at d ≡ refuse 52 at
       unfolding head_at
       head_long e h = rw (good, le-ltb 6 d flat, eq-eqb (field_behind s).number 0 e, lt-ltb _ _ h)
 
       pub head_object : (field_behind s).number ≡ 0 → (field_behind s).length ≤ length s - ((field_behind s).used + 1)
-          → head_at s at d ≡ Object (get_or s 0 0) ((field_behind s).used + 1) (field_behind s).length
+          → head_at s at d ≡ found (get_or s 0 0) ((field_behind s).used + 1) (field_behind s).length
       unfolding head_at
       head_object e h = rw (good, le-ltb 6 d flat, eq-eqb (field_behind s).number 0 e, le-ltb _ _ h)
 

@@ -7,7 +7,8 @@ use mathlib.Core.Bool.{cond}
 use mathlib.Core.List.{List, [], ◌∷◌}
 use lib.ListN.{length, drop, take, length-drop, length-take}
 use Rattle.tree.specs.declared.Head.{Head}
-use Rattle.tree.specs.declared.Head.TheVariants as H
+use Rattle.std.specs.Prelude.{Result, Ok, Err}
+use Rattle.tree.specs.declared.Refusal.{Refusal}
 use Rattle.tree.specs.Heads.{is_list, head_at}
 use Rattle.tree.specs.Listing.{Entry, entry, Out, took, refused, on_head, above, and_then, one, run, listing, object}
 use Rattle.tree.proofs.Inside.{Inside, inside_head}
@@ -23,13 +24,13 @@ agree : (R Q : ℕ → ℕ → List ℕ → Out) (d at : ℕ) (s : List ℕ) →
     → and_then (one R d at s) (λ u. R d (at + u) (drop u s)) ≡ and_then (one Q d at s) (λ u. Q d (at + u) (drop u s))
 agree R Q d at s p same = go (head_at s at d) (inside_head s at d p)
   where
-    go : (h : Head) → Inside s h
+    go : (h : Result Head Refusal) → Inside s h
         → and_then (on_head h (λ t start n. above (entry t d at n) (start + n) (cond (is_list t) (R (suc d) (at + start) (take n (drop start s))) (took [] 0)))) (λ u. R d (at + u) (drop u s))
         ≡ and_then (on_head h (λ t start n. above (entry t d at n) (start + n) (cond (is_list t) (Q (suc d) (at + start) (take n (drop start s))) (took [] 0)))) (λ u. Q d (at + u) (drop u s))
-    go (H.Refused x q) w = refl
-    go (H.Object t start n) w =
-        rw (same (suc d) (at + start) (take n (drop start s)) (simp (length-take, length-drop) (omega arith)))
-        (then_above (entry t d at n) (start + n) (cond (is_list t) (Q (suc d) (at + start) (take n (drop start s))) (took [] 0)) (λ u. R d (at + u) (drop u s)) (λ u. Q d (at + u) (drop u s)) (same d (at + (start + n)) (drop (start + n) s) (simp length-drop (omega arith))))
+    go (Err x) w = refl
+    go (Ok h) w =
+        rw (same (suc d) (at + h.start) (take h.length (drop h.start s)) (simp (length-take, length-drop) (omega arith)))
+        (then_above (entry h.tag d at h.length) (h.start + h.length) (cond (is_list h.tag) (Q (suc d) (at + h.start) (take h.length (drop h.start s))) (took [] 0)) (λ u. R d (at + u) (drop u s)) (λ u. Q d (at + u) (drop u s)) (same d (at + (h.start + h.length)) (drop (h.start + h.length) s) (simp length-drop (omega arith))))
 
 -- more than enough makes no difference
 enough : (f g d at : ℕ) (s : List ℕ) → length s ≤ f → length s ≤ g → run f d at s ≡ run g d at s

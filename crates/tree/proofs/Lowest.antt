@@ -1,5 +1,5 @@
 -- A refusal is the fault with the lowest address, 51 first there and then 50, 53, 52; where nothing is refused there is no fault. Assumes nothing.
-use mathlib.Core.Path.{◌≡◌, refl, sym, ◌∙◌}
+use mathlib.Core.Path.{◌≡◌, refl, sym, ap, ◌∙◌}
 use Prim.Native.Nat.{ℕ, zero, suc, ◌+◌, ◌-◌, ◌≤◌, ◌<◌}
 use native.Mathlib.Nat.{not-suc-le-zero, le_refl}
 use native.Mathlib.Omega.{arith}
@@ -7,12 +7,13 @@ use mathlib.Core.Bool.{Bool, true, false}
 use mathlib.Core.List.{List, [], ◌∷◌}
 use borrow.Author.Tests.{lt-ltb, le-ltb, ltb-true, ltb-false, eqb-true, eqb-false, ne_eqb}
 use lib.Dec.{eqb, ltb}
+use Rattle.std.specs.Prelude.{Result}
+use Rattle.lengths.specs.declared.Field.{Field}
+use Rattle.lengths.specs.declared.FieldError.{FieldError}
 use lib.ListN.{length, drop, take, length-drop}
 use lib.Seq.{length-take-le}
-use Rattle.lengths.specs.declared.Length.TheVariants as L
-use Rattle.lengths.specs.Lengths.{length_read, length_told}
-use Rattle.tree.specs.declared.Head.TheVariants as H
-use Rattle.tree.specs.Heads.{bad_tag, is_list, head_at}
+use Rattle.lengths.specs.Lengths.{read, length_read, length_told}
+use Rattle.tree.specs.Heads.{bad_tag, found, refuse, is_list, head_at}
 use Rattle.tree.specs.Listing.{entry, Out, took, refused, above, before, and_then, listing}
 use Rattle.tree.proofs.Listings.{list_none, list_more}
 use Rattle.tree.specs.Faults.{Fault, bad-tag, too-deep, bad-field, too_long, inner, later, Before}
@@ -58,7 +59,7 @@ never e = absurd (let z : ◌≡◌ {A = ℕ} 0 1 = cc in omega arith)
 
 -- the head by its tests, and the faults that each leaves
 module _ (d at b : ℕ) (r : List ℕ) where
-  h50 : bad_tag b ≡ true → head_at (b ∷ r) at d ≡ H.Refused 50 at
+  h50 : bad_tag b ≡ true → head_at (b ∷ r) at d ≡ refuse 50 at
   unfolding head_at
   h50 e = rw e
 
@@ -71,7 +72,7 @@ module _ (d at b : ℕ) (r : List ℕ) where
   first50 y q (later n u e h f) = record { lower = omega (arith, from f); first = λ g. absurd (omega (arith, from f)) }
 
   module _ (good : bad_tag b ≡ false) where
-    h53 : 6 < d → head_at (b ∷ r) at d ≡ H.Refused 53 at
+    h53 : 6 < d → head_at (b ∷ r) at d ≡ refuse 53 at
     unfolding head_at
     h53 e = rw (good, lt-ltb 6 d e)
 
@@ -84,11 +85,11 @@ module _ (d at b : ℕ) (r : List ℕ) where
     first53 y q (later n u e h f) = record { lower = omega (arith, from f); first = λ g. absurd (omega (arith, from f)) }
 
     module _ (flat : d ≤ 6) where
-      h51 : ((length_told (length_read r)).number ≡ 0 → ⊥) → head_at (b ∷ r) at d ≡ H.Refused 51 (at + 1)
+      h51 : ((length_told (length_read r)).number ≡ 0 → ⊥) → head_at (b ∷ r) at d ≡ refuse 51 (at + 1)
       unfolding head_at
       h51 e = rw (good, le-ltb 6 d flat, ne_eqb (length_told (length_read r)).number 0 e)
 
-      other : (n u : ℕ) → ((length_told (length_read r)).number ≡ 0 → ⊥) → length_read r ≡ L.Read n u → ⊥
+      other : (n u : ℕ) → ((length_told (length_read r)).number ≡ 0 → ⊥) → length_read r ≡ read n u → ⊥
       other n u e f = e (read_told (length_read r) n u f)
 
       first51 : ((length_told (length_read r)).number ≡ 0 → ⊥) → (y q : ℕ) → Fault d at (b ∷ r) y q → Before 51 (at + 1) y q
@@ -99,11 +100,13 @@ module _ (d at b : ℕ) (r : List ℕ) where
       first51 k y q (inner n u e h i f) = absurd (other n u k e)
       first51 k y q (later n u e h f) = absurd (other n u k e)
 
-      module _ (n u : ℕ) (e : length_read r ≡ L.Read n u) where
-        same-n : (m v : ℕ) → length_read r ≡ L.Read m v → (m ≡ n) × (v ≡ u)
-        same-n m v f = let g = sym e ∙ f in (cc, cc)
+      module _ (n u : ℕ) (e : length_read r ≡ read n u) where
+        same-n : (m v : ℕ) → length_read r ≡ read m v → (m ≡ n) × (v ≡ u)
+        same-n m v f =
+            let g : read n u ≡ read m v = sym e ∙ f in
+            (sym (ap (λ (l : Result Field FieldError). (length_told l).length) g), sym (ap (λ (l : Result Field FieldError). (length_told l).used) g))
 
-        h52 : length (b ∷ r) - (u + 1) < n → head_at (b ∷ r) at d ≡ H.Refused 52 at
+        h52 : length (b ∷ r) - (u + 1) < n → head_at (b ∷ r) at d ≡ refuse 52 at
         unfolding head_at
         h52 h = rw (good, le-ltb 6 d flat, e, lt-ltb (length (b ∷ r) - (u + 1)) n h)
 
@@ -115,7 +118,7 @@ module _ (d at b : ℕ) (r : List ℕ) where
         first52 h y q (inner m v e1 h1 i f) = let s = same-n m v e1 in absurd (omega arith)
         first52 h y q (later m v e1 h1 f) = let s = same-n m v e1 in absurd (omega arith)
 
-        h-object : n ≤ length (b ∷ r) - (u + 1) → head_at (b ∷ r) at d ≡ H.Object b (u + 1) n
+        h-object : n ≤ length (b ∷ r) - (u + 1) → head_at (b ∷ r) at d ≡ found b (u + 1) n
         unfolding head_at
         h-object h = rw (good, le-ltb 6 d flat, e, le-ltb (length (b ∷ r) - (u + 1)) n h)
 
@@ -149,13 +152,13 @@ some (later n u e h f) = omega arith
 judged_none : (d at : ℕ) → Judged d at [] (listing d at [])
 judged_none d at = rw (list_none d at) (λ y q f. absurd (not-suc-le-zero (some f)))
 
-judged_refused : (d at b : ℕ) (r : List ℕ) (x p : ℕ) → head_at (b ∷ r) at d ≡ H.Refused x p → Fault d at (b ∷ r) x p
+judged_refused : (d at b : ℕ) (r : List ℕ) (x p : ℕ) → head_at (b ∷ r) at d ≡ refuse x p → Fault d at (b ∷ r) x p
     → ((y q : ℕ) → Fault d at (b ∷ r) y q → Before x p y q) → Judged d at (b ∷ r) (listing d at (b ∷ r))
 judged_refused d at b r x p e f first =
     let k : listing d at (b ∷ r) ≡ refused x p = list_more d at (b ∷ r) (omega arith) ∙ rw (object_refused d at (b ∷ r) x p e) in
     rw k (f, first)
 
-module _ (d at b : ℕ) (r : List ℕ) (good : bad_tag b ≡ false) (flat : d ≤ 6) (n u : ℕ) (e : length_read r ≡ L.Read n u) (h : n ≤ length (b ∷ r) - (u + 1)) where
+module _ (d at b : ℕ) (r : List ℕ) (good : bad_tag b ≡ false) (flat : d ≤ 6) (n u : ℕ) (e : length_read r ≡ read n u) (h : n ≤ length (b ∷ r) - (u + 1)) where
   abbrev rest : List ℕ
   rest = drop (u + 1 + n) (b ∷ r)
 
@@ -194,7 +197,7 @@ module _ (d at b : ℕ) (r : List ℕ) (good : bad_tag b ≡ false) (flat : d �
 
 -- the tests in turn
 module _ (f d at b : ℕ) (r : List ℕ) (short : length r ≤ f) (all : (d at : ℕ) (s : List ℕ) → length s ≤ f → Judged d at s (listing d at s)) where
-  by-long : bad_tag b ≡ false → d ≤ 6 → (n u : ℕ) → length_read r ≡ L.Read n u → (q : Bool) → ltb (length (b ∷ r) - (u + 1)) n ≡ q → Judged d at (b ∷ r) (listing d at (b ∷ r))
+  by-long : bad_tag b ≡ false → d ≤ 6 → (n u : ℕ) → length_read r ≡ read n u → (q : Bool) → ltb (length (b ∷ r) - (u + 1)) n ≡ q → Judged d at (b ∷ r) (listing d at (b ∷ r))
   by-long good flat n u e true k =
       let h : length (b ∷ r) - (u + 1) < n = ltb-true (length (b ∷ r) - (u + 1)) n k in
       judged_refused d at b r 52 at (h52 d at b r good flat n u e h) (too_long n u e h refl refl) (first52 d at b r good flat n u e h)

@@ -5,7 +5,8 @@ use mathlib.Core.Bool.{Bool, true, false, cond}
 use mathlib.Core.List.{List, [], ◌∷◌}
 use lib.ListN.{length, drop, take, length-drop, length-take, length-append}
 use Rattle.tree.specs.declared.Head.{Head}
-use Rattle.tree.specs.declared.Head.TheVariants as H
+use Rattle.std.specs.Prelude.{Result, Ok, Err}
+use Rattle.tree.specs.declared.Refusal.{Refusal}
 use Rattle.tree.specs.Heads.{is_list, head_at}
 use Rattle.tree.proofs.Inside.{Inside, inside_head}
 use Rattle.tree.specs.Listing.{Entry, entry, Out, took, refused, on_head, above, before, and_then, one, run, listing, object}
@@ -32,12 +33,12 @@ sized_inner s l e start n false o h p q w = sized_above s [] e start n (took [] 
 sized_one : (R : ℕ → ℕ → List ℕ → Out) (d at : ℕ) (s : List ℕ) → 0 < length s → ((e a : ℕ) (l : List ℕ) → Sized l (R e a l)) → SizedOne s (one R d at s)
 sized_one R d at s p all = go (head_at s at d) (inside_head s at d p)
   where
-    go : (h : Head) → Inside s h
+    go : (h : Result Head Refusal) → Inside s h
         → SizedOne s (on_head h (λ t start n. above (entry t d at n) (start + n) (cond (is_list t) (R (suc d) (at + start) (take n (drop start s))) (took [] 0))))
-    go (H.Refused x q) w = tt
-    go (H.Object t start n) w =
-        sized_inner s (take n (drop start s)) (entry t d at n) start n (is_list t) (R (suc d) (at + start) (take n (drop start s)))
-        (simp (length-take, length-drop) (omega arith)) w.0 w.1 (all (suc d) (at + start) (take n (drop start s)))
+    go (Err x) w = tt
+    go (Ok h) w =
+        sized_inner s (take h.length (drop h.start s)) (entry h.tag d at h.length) h.start h.length (is_list h.tag) (R (suc d) (at + h.start) (take h.length (drop h.start s)))
+        (simp (length-take, length-drop) (omega arith)) w.0 w.1 (all (suc d) (at + h.start) (take h.length (drop h.start s)))
 
 sized_before : (s : List ℕ) (es : List Entry) (u : ℕ) (o : Out) → length es ≤ u → u ≤ length s → Sized (drop u s) o → Sized s (before es u o)
 sized_before s es u (took fs m) h g w = (simp length-append (omega arith), omega (arith, length-drop u s))

@@ -9,7 +9,8 @@ use lib.Dec.{lit<}
 use lib.ListN.{length, drop, take, length-drop, take-append-drop}
 use lib.Seq.{length-take-le, drop-drop}
 use Rattle.tree.specs.declared.Head.{Head}
-use Rattle.tree.specs.declared.Head.TheVariants as H
+use Rattle.std.specs.Prelude.{Result, Ok, Err}
+use Rattle.tree.specs.declared.Refusal.{Refusal}
 use Rattle.tree.specs.Heads.{is_list, head_at}
 use Rattle.tree.proofs.Inside.{Inside, inside_head}
 use Rattle.tree.specs.Listing.{Entry, entry, Out, took, refused, above, before, and_then, listing, object}
@@ -78,18 +79,19 @@ module _ (f : ℕ) (all : (d at : ℕ) (s : List ℕ) (es : List Entry) (u : ℕ
       absurd (let z : ◌≡◌ {A = ℕ} 0 1 = cc in omega arith)
   on-template t start n b p q node (refused x a) c o e h = absurd (let z : ◌≡◌ {A = ℕ} 0 1 = cc in omega arith)
 
-  on-head : (h : Head) → head_at s at d ≡ h → Inside s h → BeginsIf s d h → and_then (object d at s) (λ v. listing d (at + v) (drop v s)) ≡ took es u → Tree d at s es
-  on-head (H.Refused x p) e w b k =
-      let k2 : refused x p ≡ took es u = rw (object_refused d at s x p e) at k in
+  on-head : (h : Result Head Refusal) → head_at s at d ≡ h → Inside s h → BeginsIf s d h → and_then (object d at s) (λ v. listing d (at + v) (drop v s)) ≡ took es u → Tree d at s es
+  on-head (Err x) e w b k =
+      let k2 : refused x.number x.place ≡ took es u = rw (object_refused d at s x.number x.place e) at k in
       absurd (let z : ◌≡◌ {A = ℕ} 0 1 = cc in omega arith)
-  on-head (H.Object t start n) e w b k = by (is_list t) refl
+  on-head (Ok h) e w b k = by (is_list h.tag) refl
     where
-      by : (q : Bool) → is_list t ≡ q → Tree d at s es
+      by : (q : Bool) → is_list h.tag ≡ q → Tree d at s es
       by false leaf =
-          on-plain t start n b w.0 w.1 leaf (listing d (at + (start + n)) (drop (start + n) s)) refl (rw (object_plain d at s t start n e leaf) at k)
+          on-plain h.tag h.start h.length b w.0 w.1 leaf (listing d (at + (h.start + h.length)) (drop (h.start + h.length) s)) refl
+          (rw (object_plain d at s h.tag h.start h.length e leaf) at k)
       by true node =
-          on-template t start n b w.0 w.1 node (listing (suc d) (at + start) (take n (drop start s))) refl (listing d (at + (start + n)) (drop (start + n) s)) refl
-          (rw (object_inner d at s t start n e node) at k)
+          on-template h.tag h.start h.length b w.0 w.1 node (listing (suc d) (at + h.start) (take h.length (drop h.start s))) refl
+          (listing d (at + (h.start + h.length)) (drop (h.start + h.length) s)) refl (rw (object_inner d at s h.tag h.start h.length e node) at k)
 
 empty : (d at : ℕ) (es : List Entry) (u : ℕ) → listing d at [] ≡ took es u → Tree d at [] es
 empty d at es u e =

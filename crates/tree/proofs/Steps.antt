@@ -7,13 +7,13 @@ use mathlib.Core.Bool.{true, false}
 use mathlib.Core.List.{List, [], ◌∷◌, ◌++◌, append-nil, append_assoc}
 use lib.ListN.{length, drop, take, length-drop, length-append}
 use lib.Seq.{sets, length-sets, drop-drop, drop-nil}
-use Rattle.tree.specs.declared.Head.TheVariants as H
+use Rattle.std.specs.Prelude.{Result, Ok, Err}
 use Rattle.tree.specs.declared.Scan.{Scan}
-use Rattle.tree.specs.declared.Scan.TheVariants as S
-use Rattle.tree.specs.Heads.{is_list, head_at}
+use Rattle.tree.specs.declared.Refusal.{Refusal}
+use Rattle.tree.specs.Heads.{is_list, found, refuse, head_at}
 use Rattle.tree.specs.Listing.{Entry, entry, Out, took, refused, above, before, and_then, listing, object}
 use Rattle.tree.proofs.Listings.{list_none, list_more}
-use Rattle.tree.specs.Answers.{words, scanned, Stored, Done}
+use Rattle.tree.specs.Answers.{words, scan, scanned, Stored, Done}
 use Rattle.ground.specs.Rooms.{room_with}
 use Rattle.ground.proofs.Puts.{put_in}
 use Rattle.tree.proofs.Words.{length_words, store_more}
@@ -24,22 +24,35 @@ drop_past [] p h = drop-nil p
 drop_past (b ∷ r) zero h = absurd (not-suc-le-zero h)
 drop_past (b ∷ r) (suc p) h = drop_past r p (le_of_suc-le-suc h)
 
+-- what a reader's answer holds
+abbrev pub words_of : Result Scan Refusal → ℕ
+words_of (Ok s) = s.words
+words_of (Err e) = 0
+
+abbrev pub used_of : Result Scan Refusal → ℕ
+used_of (Ok s) = s.used
+used_of (Err e) = 0
+
+abbrev pub out_of : Result Scan Refusal → Out
+out_of (Ok s) = took [] 0
+out_of (Err e) = refused e.number e.place
+
 -- one object
 module _ (d at : ℕ) (s : List ℕ) where
-  pub object_refused : (x p : ℕ) → head_at s at d ≡ H.Refused x p → object d at s ≡ refused x p
+  pub object_refused : (x p : ℕ) → head_at s at d ≡ refuse x p → object d at s ≡ refused x p
   unfolding object
   object_refused x p e = rw e
 
-  pub object_plain : (t start n : ℕ) → head_at s at d ≡ H.Object t start n → is_list t ≡ false → object d at s ≡ took (entry t d at n ∷ []) (start + n)
+  pub object_plain : (t start n : ℕ) → head_at s at d ≡ found t start n → is_list t ≡ false → object d at s ≡ took (entry t d at n ∷ []) (start + n)
   unfolding object
   object_plain t start n e b = rw (e, b)
 
-  pub object_inner : (t start n : ℕ) → head_at s at d ≡ H.Object t start n → is_list t ≡ true
+  pub object_inner : (t start n : ℕ) → head_at s at d ≡ found t start n → is_list t ≡ true
       → object d at s ≡ above (entry t d at n) (start + n) (listing (suc d) (at + start) (take n (drop start s)))
   unfolding object
   object_inner t start n e b = rw (e, b)
 
-pub done_refused : (k : ℕ) (o : Out) (room after : List ℕ) (x p : ℕ) → o ≡ refused x p → Done k o (S.Refused x p) room after
+pub done_refused : (k : ℕ) (o : Out) (room after : List ℕ) (x p : ℕ) → o ≡ refused x p → Done k o (refuse x p) room after
 unfolding scanned Stored
 done_refused k o room after x p e = rw e (record { answer = refl; stored = tt })
 
@@ -48,7 +61,7 @@ put_fits : (room : List ℕ) (k : ℕ) (e : Entry) → k + 4 ≤ length room →
 put_fits room k e h = sym (put_in room k (words (e ∷ [])) (omega (arith, length_words (e ∷ [])))).1
 
 pub done_plain : (k : ℕ) (o : Out) (room after : List ℕ) (e : Entry) (u : ℕ) → o ≡ took (e ∷ []) u → after ≡ room_with room k (words (e ∷ []))
-    → Done k o (S.Took (k + 4) u) room after
+    → Done k o (scan (k + 4) u) room after
 unfolding scanned Stored
 done_plain k o room after e u h g = rw h (record { answer = refl; stored = λ w. g ∙ put_fits room k e (omega arith) })
 
@@ -62,26 +75,26 @@ length_put : (room mid : List ℕ) (k : ℕ) (e : Entry) → mid ≡ room_with r
 length_put room mid k e g h = ap length (g ∙ put_fits room k e h) ∙ length-sets room k (words (e ∷ []))
 
 -- a template: the inner list was read behind its own words
-pub done_above : (k : ℕ) (o i : Out) (room mid after : List ℕ) (e : Entry) (u m v : ℕ) (r : Scan)
-    → o ≡ above e u i → mid ≡ room_with room k (words (e ∷ [])) → Done (k + 4) i r mid after → r ≡ S.Took m v → Done k o (S.Took m u) room after
+pub done_above : (k : ℕ) (o i : Out) (room mid after : List ℕ) (e : Entry) (u m v : ℕ) (r : Result Scan Refusal)
+    → o ≡ above e u i → mid ≡ room_with room k (words (e ∷ [])) → Done (k + 4) i r mid after → r ≡ scan m v → Done k o (scan m u) room after
 unfolding scanned Stored
 done_above k o (took es w) room mid after e u m v r h g done f =
-    let t : S.Took m v ≡ S.Took (k + 4 + 4 * length es) w = sym f ∙ done.answer in
-    let c : m ≡ k + 4 + 4 * length es = cc in
+    let t : scan m v ≡ scan (k + 4 + 4 * length es) w = sym f ∙ done.answer in
+    let c : m ≡ k + 4 + 4 * length es = ap words_of t in
     let d : m ≡ k + 4 * suc (length es) = omega arith in
     rw h (record {
-      answer = ap (λ (x : ℕ). S.Took x u) d;
+      answer = ap (λ (x : ℕ). scan x u) d;
       stored = λ fits. put_more room mid after k e es g fits (done.stored (omega (arith, length_put room mid k e g (omega arith))));
     })
 done_above k o (refused x p) room mid after e u m v r h g done f =
-    let t : S.Took m v ≡ S.Refused x p = sym f ∙ done.answer in
+    let t : scan m v ≡ refuse x p = sym f ∙ done.answer in
     absurd (let z : ◌≡◌ {A = ℕ} 0 1 = cc in omega arith)
 
-pub done_above_refused : (k : ℕ) (o i : Out) (room mid after : List ℕ) (e : Entry) (u x p : ℕ) (r : Scan)
-    → o ≡ above e u i → Done (k + 4) i r mid after → r ≡ S.Refused x p → Done k o (S.Refused x p) room after
+pub done_above_refused : (k : ℕ) (o i : Out) (room mid after : List ℕ) (e : Entry) (u x p : ℕ) (r : Result Scan Refusal)
+    → o ≡ above e u i → Done (k + 4) i r mid after → r ≡ refuse x p → Done k o (refuse x p) room after
 unfolding scanned Stored
 done_above_refused k o (took es w) room mid after e u x p r h done f =
-    let t : S.Refused x p ≡ S.Took (k + 4 + 4 * length es) w = sym f ∙ done.answer in
+    let t : refuse x p ≡ scan (k + 4 + 4 * length es) w = sym f ∙ done.answer in
     absurd (let z : ◌≡◌ {A = ℕ} 0 1 = cc in omega arith)
 done_above_refused k o (refused y q) room mid after e u x p r h done f =
     rw h (record { answer = sym f ∙ done.answer; stored = tt })
@@ -126,14 +139,14 @@ module _ (d at : ℕ) (s : List ℕ) (k : ℕ) (room₀ : List ℕ) where
 
   -- an object was read: more is done, and bytes were used
   more : (p n : ℕ) (room : List ℕ) → Partly d at s k room₀ p n room → p < length s
-      → (r : Scan) (after : List ℕ) (m u : ℕ) (o : Out) → object d (at + p) (drop p s) ≡ o → SizedOne (drop p s) o
-      → Done n o r room after → r ≡ S.Took m u → length after ≡ length room
+      → (r : Result Scan Refusal) (after : List ℕ) (m u : ℕ) (o : Out) → object d (at + p) (drop p s) ≡ o → SizedOne (drop p s) o
+      → Done n o r room after → r ≡ scan m u → length after ≡ length room
       → (0 < u) × Partly d at s k room₀ (p + u) m after
   unfolding scanned Stored
   more p n room w h r after m u (took fs v) e z done f g =
-      let t : S.Took m u ≡ S.Took (n + 4 * length fs) v = sym f ∙ done.answer in
-      let a : m ≡ n + 4 * length fs = cc in
-      let b : u ≡ v = cc in
+      let t : scan m u ≡ scan (n + 4 * length fs) v = sym f ∙ done.answer in
+      let a : m ≡ n + 4 * length fs = ap words_of t in
+      let b : u ≡ v = ap used_of t in
       let c : m ≡ k + 4 * length (w.es ++ fs) = simp length-append (omega arith) in (
         omega arith,
         record {
@@ -149,37 +162,37 @@ module _ (d at : ℕ) (s : List ℕ) (k : ℕ) (room₀ : List ℕ) where
         },
       )
   more p n room w h r after m u (refused x q) e z done f g =
-      let t : S.Took m u ≡ S.Refused x q = sym f ∙ done.answer in
+      let t : scan m u ≡ refuse x q = sym f ∙ done.answer in
       absurd (let z : ◌≡◌ {A = ℕ} 0 1 = cc in omega arith)
 
   pub partly_more : (p n : ℕ) (room : List ℕ) → Partly d at s k room₀ p n room → p < length s
-      → (r : Scan) (after : List ℕ) (m u : ℕ) → Done n (object d (at + p) (drop p s)) r room after → r ≡ S.Took m u → length after ≡ length room
+      → (r : Result Scan Refusal) (after : List ℕ) (m u : ℕ) → Done n (object d (at + p) (drop p s)) r room after → r ≡ scan m u → length after ≡ length room
       → (0 < u) × Partly d at s k room₀ (p + u) m after
   partly_more p n room w h r after m u done f g =
       more p n room w h r after m u (object d (at + p) (drop p s)) refl (sized_object d (at + p) (drop p s) (simp length-drop (omega arith))) done f g
 
   -- a refusal ends it
   stop : (p n : ℕ) (room : List ℕ) → Partly d at s k room₀ p n room → p < length s
-      → (r : Scan) (after : List ℕ) (x a : ℕ) (o : Out) → object d (at + p) (drop p s) ≡ o → Done n o r room after → r ≡ S.Refused x a
+      → (r : Result Scan Refusal) (after : List ℕ) (x a : ℕ) (o : Out) → object d (at + p) (drop p s) ≡ o → Done n o r room after → r ≡ refuse x a
       → listing d at s ≡ refused x a
   unfolding scanned
   stop p n room w h r after x a (took fs v) e done f =
-      let t : S.Refused x a ≡ S.Took (n + 4 * length fs) v = sym f ∙ done.answer in
+      let t : refuse x a ≡ scan (n + 4 * length fs) v = sym f ∙ done.answer in
       absurd (let z : ◌≡◌ {A = ℕ} 0 1 = cc in omega arith)
   stop p n room w h r after x a (refused y b) e done f =
-      let t : S.Refused x a ≡ S.Refused y b = sym f ∙ done.answer in
-      let q : refused y b ≡ refused x a = cc in
+      let t : refuse x a ≡ refuse y b = sym f ∙ done.answer in
+      let q : refused y b ≡ refused x a = sym (ap out_of t) in
       w.sofar ∙ ap (before w.es p) (next d at s p h) ∙ rw e q
 
   pub partly_stop : (p n : ℕ) (room : List ℕ) → Partly d at s k room₀ p n room → p < length s
-      → (r : Scan) (after : List ℕ) (x a : ℕ) → Done n (object d (at + p) (drop p s)) r room after → r ≡ S.Refused x a
-      → Done k (listing d at s) (S.Refused x a) room₀ after
+      → (r : Result Scan Refusal) (after : List ℕ) (x a : ℕ) → Done n (object d (at + p) (drop p s)) r room after → r ≡ refuse x a
+      → Done k (listing d at s) (refuse x a) room₀ after
   partly_stop p n room w h r after x a done f =
       done_refused k (listing d at s) room₀ after x a (stop p n room w h r after x a (object d (at + p) (drop p s)) refl done f)
 
   -- nothing is left
-  pub partly_end : (p n : ℕ) (room : List ℕ) → Partly d at s k room₀ p n room → length s ≤ p → Done k (listing d at s) (S.Took n p) room₀ room
+  pub partly_end : (p n : ℕ) (room : List ℕ) → Partly d at s k room₀ p n room → length s ≤ p → Done k (listing d at s) (scan n p) room₀ room
   unfolding scanned Stored
   partly_end p n room w h =
       let e : listing d at s ≡ took w.es p = w.sofar ∙ rw (drop_past s p h, list_none d (at + p), append-nil, add-zero) in
-      rw e (record { answer = ap (λ (x : ℕ). S.Took x p) w.count; stored = w.stored })
+      rw e (record { answer = ap (λ (x : ℕ). scan x p) w.count; stored = w.stored })

@@ -1,7 +1,7 @@
 -- The listing of all objects of some bytes.
-use Rattle.std.specs.Prelude.{ℕ, zero, suc, ◌+◌, cond, List, [], ◌∷◌, ◌++◌, length, drop, take}
+use Rattle.std.specs.Prelude.{ℕ, zero, suc, ◌+◌, cond, List, [], ◌∷◌, ◌++◌, length, drop, take, Result, Ok, Err}
 use Rattle.tree.specs.declared.Head.{Head}
-use Rattle.tree.specs.declared.Head.TheVariants as H
+use Rattle.tree.specs.declared.Refusal.{Refusal}
 use Rattle.tree.specs.Heads.{is_list, head_at}
 
 -- an object: its tag, its depth, the tag's address and the value's length
@@ -14,9 +14,9 @@ pub data Out : Type 0 where
   refused : ℕ → ℕ → Out
 
 -- an object is there: go on with its tag, where its value starts, and the value's length
-abbrev pub on_head : Head → (ℕ → ℕ → ℕ → Out) → Out
-on_head (H.Object t start n) k = k t start n
-on_head (H.Refused x p) k = refused x p
+abbrev pub on_head : Result Head Refusal → (ℕ → ℕ → ℕ → Out) → Out
+on_head (Ok h) k = k h.tag h.start h.length
+on_head (Err e) k = refused e.number e.place
 
 -- an object e of u bytes, before the objects in its value
 abbrev pub above : Entry → ℕ → Out → Out

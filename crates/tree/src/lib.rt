@@ -1,26 +1,36 @@
 // What the objects of a foreign card are, how they are listed, and that the listing is right: the definitions and the theorems.
-// No code but the answers' types: the objects are listed by `tree_list::list_tree`.
+// No code but the answers' types, and a refusal put together: the objects are listed by `tree_list::list_tree`.
 // The theorems are of the definition; each piece's contract says that its answer is the definition's.
 #![tactic(auto)]
 
-// An object's tag, where its value starts behind the tag, and the value's length; or a refusal's number and place.
-#[derive(Clone, Copy)]
-pub enum Head {
-    Object(u8, usize, usize),
-    Refused(u8, u16),
+ghost use Rattle.std.specs.Prelude.{◌≡◌};
+
+// An object's tag, where its value starts behind the tag, and the value's length.
+#[derive(Clone, Copy, PartialEq, Eq)]
+pub struct Head {
+    pub tag: u8,
+    pub start: usize,
+    pub length: usize,
 }
 
-// How many words the room has up to here, and how many bytes were read; or a refusal's number and place.
-#[derive(Clone, Copy)]
-pub enum Scan {
-    Took(usize, usize),
-    Refused(u8, u16),
+// How many words the room has up to here, and how many bytes were read.
+#[derive(Clone, Copy, PartialEq, Eq)]
+pub struct Scan {
+    pub words: usize,
+    pub used: usize,
 }
 
-// How many objects were listed; or a refusal's number, with 50 to 53 its place.
-#[derive(Clone, Copy)]
-pub struct TreeAnswer {
+// A refusal's number, and with 50 to 53 its place.
+#[derive(Clone, Copy, PartialEq, Eq)]
+pub struct Refusal {
     pub number: u8,
     pub place: u16,
-    pub count: u16,
+}
+
+impl Refusal {
+    pub fn new(number: u8, place: u16) -> Refusal
+        ensures { result ≡ record { number = number; place = place } }
+    {
+        Refusal { number, place }
+    }
 }

@@ -1,5 +1,4 @@
--- Laws of words compared and of objects put together; then the theorems: WritesBack and Only, and the round trips.
-pub mod Compared
+-- Laws of objects put together; then the theorems: WritesBack and Only, and the round trips.
 pub mod Putting
 pub mod Sofar
 pub mod WritesBack

@@ -4,20 +4,21 @@ use Prim.Native.Nat.{ℕ, zero, suc, ◌+◌, ◌*◌, ◌/◌, ◌%◌, ◌≤�
 use native.Mathlib.Omega.{arith}
 use mathlib.Core.Bool.{Bool, true, false, cond, ◌&&◌}
 use mathlib.Core.List.{List, [], ◌∷◌, ◌++◌, append-nil}
-use borrow.Author.Tests.{lt-ltb, ltb-false, leb-true, leb-false, eqb-true}
+use borrow.Author.Tests.{lt-ltb, ltb-false, leb-true, leb-false}
 use lib.Dec.{ltb, leb, eqb, lit<}
 use lib.ListN.{length, drop, take, replicate, length-replicate, take-append-drop}
 use lib.Seq.{sets}
-use Rattle.tree.specs.declared.TreeAnswer.{TreeAnswer}
+use Rattle.std.specs.Prelude.{Result, is_ok}
+use Rattle.tree.specs.declared.Refusal.{Refusal}
+use Rattle.tree.specs.Heads.{refuse}
 use Rattle.tree.specs.Listing.{Entry, Out, took, refused, listing}
-use Rattle.tree.specs.Answers.{words, refuse, answered, filled, tree_answer, tree_room}
+use Rattle.tree.specs.Answers.{words, count_of, answered, filled, tree_answer, tree_room}
 use Rattle.ground.specs.Lists.{same_list}
-use Rattle.ground.proofs.Lists.{and_left, same_equal}
+use Rattle.ground.proofs.Lists.{same_equal}
 use Rattle.lengths.specs.Lengths.{length_field}
 use Rattle.lengths.proofs.Forms.{field_one, field_two, field_three}
 use Rattle.tree.specs.Forest.{encode, entries, values}
 use Rattle.tree.proofs.Behind.{below_take, below_drop, below_both}
-use Rattle.tree.proofs.Lowest.{Numbered, numbered}
 use Rattle.tree.proofs.Whole.{listed}
 use Rattle.tree.proofs.Sound.{sound}
 use Rattle.tree.proofs.Order.{plain_values}
@@ -128,28 +129,28 @@ pub record Lists (b ws : List ℕ) : Type 0 where
   pub are_words : words es ≡ ws
 
 module _ (b ws room : List ℕ) (big : length room ≡ 8192) where
-  abbrev Same : TreeAnswer → List ℕ → Bool
-  Same a after = eqb a.number 0 && same_list (take (a.count * 4) after) ws
+  abbrev Same : Result ℕ Refusal → List ℕ → Bool
+  Same a after = is_ok a && same_list (take (count_of a * 4) after) ws
 
-  refused-not : (x p : ℕ) (after : List ℕ) → (x ≡ 0 → ⊥) → Same (refuse x p) after ≡ true → Lists b ws
-  refused-not x p after n k = absurd (n (eqb-true x 0 (and_left (eqb x 0) (same_list (take (0 * 4) after) ws) k)))
+  refused-not : (x p : ℕ) (after : List ℕ) → Same (refuse x p) after ≡ true → Lists b ws
+  refused-not x p after k = absurd (let z : ◌≡◌ {A = ℕ} 0 1 = cc in omega arith)
 
   lists-room : (es : List Entry) (u : ℕ) → listing 1 0 b ≡ took es u → length b ≤ 4096 → (q : Bool) → ltb (length room) (4 * length es) ≡ q
       → Same (cond q (refuse 55 0) (listed (length es))) (cond q room (sets room 0 (words es))) ≡ true → Lists b ws
-  lists-room es u e h true r k = refused-not 55 0 room (λ z. omega arith) k
+  lists-room es u e h true r k = refused-not 55 0 room k
   lists-room es u e h false r k =
       let f : 4 * length es ≤ length room = ltb-false (length room) (4 * length es) r in
       record { short = h; es = es; used = u; listed = e; are_words = sym (room_is b es u h e room f) ∙ same_equal (take (length es * 4) (sets room 0 (words es))) ws k }
 
-  lists-out : (o : Out) → listing 1 0 b ≡ o → Numbered o → length b ≤ 4096 → Same (answered o (length room)) (filled o room) ≡ true → Lists b ws
+  lists-out : (o : Out) → listing 1 0 b ≡ o → length b ≤ 4096 → Same (answered o (length room)) (filled o room) ≡ true → Lists b ws
   unfolding answered filled
-  lists-out (took es u) e n h k = lists-room es u e h (ltb (length room) (4 * length es)) refl k
-  lists-out (refused x p) e n h k = refused-not x p room (λ z. omega (arith, n.0)) k
+  lists-out (took es u) e h k = lists-room es u e h (ltb (length room) (4 * length es)) refl k
+  lists-out (refused x p) e h k = refused-not x p room k
 
   lists-by : (q : Bool) → ltb 4096 (length b) ≡ q
       → Same (cond q (refuse 54 0) (answered (listing 1 0 b) (length room))) (cond q room (filled (listing 1 0 b) room)) ≡ true → Lists b ws
-  lists-by true e k = refused-not 54 0 room (λ z. omega arith) k
-  lists-by false e k = lists-out (listing 1 0 b) refl (numbered 1 0 b) (ltb-false 4096 (length b) e) k
+  lists-by true e k = refused-not 54 0 room k
+  lists-by false e k = lists-out (listing 1 0 b) refl (ltb-false 4096 (length b) e) k
 
 pub lists : (b ws : List ℕ) → same_tree b ws ≡ true → Lists b ws
 unfolding same_tree tree_answer tree_room

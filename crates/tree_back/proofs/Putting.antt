@@ -10,8 +10,8 @@ use lib.ListN.{length, take, set, length-append}
 use lib.Seq.{sets, length-take-le}
 use Rattle.lengths.specs.Lengths.{length_field}
 use Rattle.ground.specs.Rooms.{Put}
-use Rattle.tree_back.specs.declared.Step.TheVariants as S
-use Rattle.tree_back.specs.Glue.{value_size, object_bytes, fits, step_of}
+use Rattle.std.specs.Prelude.{None}
+use Rattle.tree_back.specs.Glue.{value_size, object_bytes, fits, step, step_of}
 use Rattle.ground.proofs.Stores.{sets_then}
 
 module _ (cap p t n : ℕ) (vs : List ℕ) where
@@ -31,7 +31,7 @@ module _ (cap p t n : ℕ) (vs : List ℕ) where
   unfolding fits
   fit h g k = rw (le-leb t 255 h, le-leb (value_size t n) (length vs) g, le-leb (p + 4 + value_size t n) cap k)
 
-  pub not_put : (l after : List ℕ) → fits cap p t n vs ≡ false → (S.No ≡ step_of cap p t n vs) × (fits cap p t n vs ≡ true → after ≡ sets l p (object_bytes t n vs))
+  pub not_put : (l after : List ℕ) → fits cap p t n vs ≡ false → (None ≡ step_of cap p t n vs) × (fits cap p t n vs ≡ true → after ≡ sets l p (object_bytes t n vs))
   unfolding step_of
   not_put l after e = (rw e, λ h. let z : true ≡ false = sym h ∙ e in absurd (let y : ◌≡◌ {A = ℕ} 0 1 = cc in omega arith))
 
@@ -41,7 +41,7 @@ module _ (cap p t n : ℕ) (vs : List ℕ) where
 
   pub put : (l l2 after : List ℕ) (m start end : ℕ) → m ≡ value_size t n → t ≤ 255 → m ≤ length vs → p + 4 + m ≤ cap
       → Put (set l p t) (p + 1) (length_field n) l2 start → Put l2 start (take m vs) after end
-      → (S.Put m (end - p) ≡ step_of cap p t n vs) × (fits cap p t n vs ≡ true → after ≡ sets l p (object_bytes t n vs))
+      → (step m (end - p) ≡ step_of cap p t n vs) × (fits cap p t n vs ≡ true → after ≡ sets l p (object_bytes t n vs))
   unfolding step_of object_bytes
   put l l2 after m start end e h1 h2 h3 a b =
       let k : value_size t n ≤ length vs = omega arith in

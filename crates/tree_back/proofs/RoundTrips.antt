@@ -9,15 +9,16 @@ use lib.Dec.{ltb}
 use lib.ListN.{length, take}
 use lib.Seq.{sets}
 use Rattle.ground.proofs.Stores.{stored_first}
-use Rattle.tree.specs.declared.TreeAnswer.{TreeAnswer}
+use Rattle.std.specs.Prelude.{Result, Ok, Err}
+use Rattle.tree.specs.declared.Refusal.{Refusal}
+use Rattle.tree.specs.Heads.{refuse}
 use Rattle.tree.specs.Listing.{Entry, Out, took, refused, listing}
-use Rattle.tree.specs.Answers.{words, refuse, answered, filled, tree_answer, tree_room}
+use Rattle.tree.specs.Answers.{words, count_of, answered, filled, tree_answer, tree_room}
 use Rattle.tree.specs.Trees.{Below, plain_of, entries_of}
-use Rattle.tree.proofs.Lowest.{Numbered, numbered}
 use Rattle.tree.proofs.Whole.{listed}
 use Rattle.tree.proofs.Words.{length_words}
-use Rattle.tree_back.specs.declared.BackAnswer.{BackAnswer}
-use Rattle.tree_back.specs.Sources.{Those, backed, Back, wrote, small, none-such}
+use Rattle.tree_back.specs.declared.BackError.{BackError}
+use Rattle.tree_back.specs.Sources.{Those, Back, wrote, small, none-such}
 use Rattle.tree_back.specs.Glue.{glued}
 use Rattle.tree_back.proofs.WritesBack.{room_is, writes_back}
 
@@ -27,10 +28,10 @@ one_source ws vs b c p q =
     let e : glued b ≡ glued c = sym (writes_back ws vs b p).0 ∙ (writes_back ws vs c q).0 in
     cc
 
-pub back_once : (ws vs room : List ℕ) (r q : BackAnswer) (after last : List ℕ) → Back ws vs room r after → Back ws vs room q last → (r ≡ q) × (after ≡ last)
+pub back_once : (ws vs room : List ℕ) (r q : Result ℕ BackError) (after last : List ℕ) → Back ws vs room r after → Back ws vs room q last → (r ≡ q) × (after ≡ last)
 back_once ws vs room r q after last (wrote b t h a e) (wrote c u k g f) =
     let s = one_source ws vs b c t u in
-    (a ∙ ap (λ (l : List ℕ). backed 0 (length l)) s ∙ sym g, e ∙ ap (sets room 0) s ∙ sym f)
+    (a ∙ ap (λ (l : List ℕ). Ok (length l)) s ∙ sym g, e ∙ ap (sets room 0) s ∙ sym f)
 back_once ws vs room r q after last (wrote b t h a e) (small c u k g f) = absurd (omega (arith, ap length (one_source ws vs b c t u)))
 back_once ws vs room r q after last (wrote b t h a e) (none-such n g f) = absurd (n b t)
 back_once ws vs room r q after last (small b t h a e) (wrote c u k g f) = absurd (omega (arith, ap length (one_source ws vs b c t u)))
@@ -51,32 +52,32 @@ record Listed (b room : List ℕ) (k : ℕ) : Type 0 where
   after : tree_room b room ≡ sets room 0 (words es)
 
 module _ (b room : List ℕ) (k : ℕ) where
-  no_number : {A : Type 0} (x p : ℕ) → (x ≡ 0 → ⊥) → refuse x p ≡ listed k → A
-  no_number x p n e = absurd (n (ap (λ (a : TreeAnswer). a.number) e))
+  no_listing : {A : Type 0} (x p : ℕ) → refuse x p ≡ listed k → A
+  no_listing x p e = absurd (let z : ◌≡◌ {A = ℕ} 0 1 = cc in omega arith)
 
   by-room : (es : List Entry) (u : ℕ) → listing 1 0 b ≡ took es u → length b ≤ 4096 → (q : Bool) → ltb (length room) (4 * length es) ≡ q
       → cond q (refuse 55 0) (listed (length es)) ≡ listed k → Listed b room k
   unfolding tree_room filled
-  by-room es u l h true r e = no_number 55 0 (λ z. omega arith) e
+  by-room es u l h true r e = no_listing 55 0 e
   by-room es u l h false r e =
       record {
         short = h;
         es = es;
         used = u;
         lists = l;
-        count = ap (λ (a : TreeAnswer). a.count) e;
+        count = ap count_of e;
         fits = ltb-false (length room) (4 * length es) r;
         after = rw (le-ltb 4096 (length b) h, l, r);
       }
 
-  by_out : (o : Out) → listing 1 0 b ≡ o → Numbered o → length b ≤ 4096 → answered o (length room) ≡ listed k → Listed b room k
+  by_out : (o : Out) → listing 1 0 b ≡ o → length b ≤ 4096 → answered o (length room) ≡ listed k → Listed b room k
   unfolding answered
-  by_out (took es u) l n h e = by-room es u l h (ltb (length room) (4 * length es)) refl e
-  by_out (refused x p) l n h e = no_number x p (λ z. omega (arith, n.0)) e
+  by_out (took es u) l h e = by-room es u l h (ltb (length room) (4 * length es)) refl e
+  by_out (refused x p) l h e = no_listing x p e
 
   by_size : (q : Bool) → ltb 4096 (length b) ≡ q → cond q (refuse 54 0) (answered (listing 1 0 b) (length room)) ≡ listed k → Listed b room k
-  by_size true h e = no_number 54 0 (λ z. omega arith) e
-  by_size false h e = by_out (listing 1 0 b) refl (numbered 1 0 b) (ltb-false 4096 (length b) h) e
+  by_size true h e = no_listing 54 0 e
+  by_size false h e = by_out (listing 1 0 b) refl (ltb-false 4096 (length b) h) e
 
   listed-as : tree_answer b room ≡ listed k → Listed b room k
   unfolding tree_answer
@@ -90,11 +91,11 @@ module _ (b room : List ℕ) (k : ℕ) where
       record { short = l.short; bytes = o; es = l.es; used = l.used; listed = l.lists; are_words = sym w; are_values = rw l.lists }
 
 -- ---- write after list: a listing and the plain values are written back as the bytes that were listed
-pub write_after_list : (b room out : List ℕ) (k : ℕ) (r : BackAnswer) (last : List ℕ) → Below 256 b → tree_answer b room ≡ listed k → length b ≤ length out
-    → Back (take (k * 4) (tree_room b room)) (plain_of b (entries_of (listing 1 0 b))) out r last → (r ≡ backed 0 (length b)) × (last ≡ sets out 0 b)
+pub write_after_list : (b room out : List ℕ) (k : ℕ) (r : Result ℕ BackError) (last : List ℕ) → Below 256 b → tree_answer b room ≡ listed k → length b ≤ length out
+    → Back (take (k * 4) (tree_room b room)) (plain_of b (entries_of (listing 1 0 b))) out r last → (r ≡ Ok (length b)) × (last ≡ sets out 0 b)
 write_after_list b room out k r last o e h w =
     let t = source b room k o (listed-as b room k e) in
-    back_once (take (k * 4) (tree_room b room)) (plain_of b (entries_of (listing 1 0 b))) out r (backed 0 (length b)) last (sets out 0 b) w (wrote b t h refl refl)
+    back_once (take (k * 4) (tree_room b room)) (plain_of b (entries_of (listing 1 0 b))) out r (Ok (length b)) last (sets out 0 b) w (wrote b t h refl refl)
 
 -- ---- list after write: what was written back is listed as it was, with its plain values
 pub record Restored (ws vs b room : List ℕ) : Type 0 where
@@ -115,14 +116,14 @@ restored ws vs b room t h =
       values_are = rw t.listed t.are_values;
     }
 
-pub list_after_write : (ws vs out room : List ℕ) (n : ℕ) (last : List ℕ) → Back ws vs out (backed 0 n) last → length ws ≤ length room → Restored ws vs (take n last) room
+abbrev size_of : Result ℕ BackError → ℕ
+size_of (Ok n) = n
+size_of (Err e) = 0
+
+pub list_after_write : (ws vs out room : List ℕ) (n : ℕ) (last : List ℕ) → Back ws vs out (Ok n) last → length ws ≤ length room → Restored ws vs (take n last) room
 list_after_write ws vs out room n last (wrote b t h a e) k =
-    let s : n ≡ length b = ap (λ (x : BackAnswer). x.size) a in
+    let s : n ≡ length b = ap size_of a in
     let same : take n last ≡ b = rw e (stored_first out b n s (omega arith)) in
     subst (λ (l : List ℕ). Restored ws vs l room) (sym same) (restored ws vs b room t k)
-list_after_write ws vs out room n last (small b t h a e) k =
-    let z : ◌≡◌ {A = ℕ} 0 55 = ap (λ (x : BackAnswer). x.number) a in
-    absurd (omega arith)
-list_after_write ws vs out room n last (none-such m a e) k =
-    let z : ◌≡◌ {A = ℕ} 0 56 = ap (λ (x : BackAnswer). x.number) a in
-    absurd (omega arith)
+list_after_write ws vs out room n last (small b t h a e) k = absurd (let z : ◌≡◌ {A = ℕ} 0 1 = cc in omega arith)
+list_after_write ws vs out room n last (none-such m a e) k = absurd (let z : ◌≡◌ {A = ℕ} 0 1 = cc in omega arith)

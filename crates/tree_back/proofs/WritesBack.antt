@@ -20,7 +20,7 @@ use Rattle.tree.proofs.Complete.{all_is}
 use Rattle.tree.proofs.Sound.{sound}
 use Rattle.tree.proofs.Order.{plain_values, two_each}
 use Rattle.tree_back.specs.Glue.{value_size, object_bytes, fits, glued, prepend, glue, same_tree}
-use Rattle.tree_back.proofs.Compared.{same_self}
+use Rattle.ground.proofs.Lists.{same_self}
 use Rattle.lengths.proofs.Laws.{field_size}
 use Rattle.tree_back.proofs.Putting.{fit}
 use Rattle.tree_back.proofs.Sofar.{prepend_none, prepend_prepend}

@@ -1,14 +1,12 @@
 -- How the bytes are put together, object by object, and listed again. The public promise does not speak of this: it says Sources.
-use Rattle.std.specs.Prelude.{◌≡◌, ℕ, ◌+◌, ◌*◌, ◌≤◌, Bool, cond, ◌&&◌, List, [], ◌∷◌, ◌++◌, eqb, ltb, leb, length, drop, take, replicate}
+use Rattle.std.specs.Prelude.{◌≡◌, ℕ, ◌+◌, ◌*◌, ◌≤◌, Bool, cond, ◌&&◌, List, [], ◌∷◌, ◌++◌, eqb, ltb, leb, length, drop, take, replicate, is_ok}
+use Rattle.std.specs.Prelude.{Option, Some, None}
 use Rattle.std.proofs.lemmas.List.Edits.{sets}
 use Rattle.ground.specs.Lists.{same_list}
 use Rattle.lengths.specs.Lengths.{length_field}
 use Rattle.tree.specs.Heads.{is_list}
-use Rattle.tree.specs.Answers.{tree_answer, tree_room}
+use Rattle.tree.specs.Answers.{count_of, tree_answer, tree_room}
 use Rattle.tree_back.specs.declared.Step.{Step}
-use Rattle.tree_back.specs.declared.Step.TheVariants as S
-use Rattle.tree_back.specs.declared.Glued.{Glued}
-use Rattle.tree_back.specs.declared.Glued.TheVariants as G
 
 -- a list takes no plain bytes
 unfoldable pub value_size : ℕ → ℕ → ℕ
@@ -21,8 +19,12 @@ object_bytes t n vs = t ∷ (length_field n ++ take (value_size t n) vs)
 unfoldable pub fits : ℕ → ℕ → ℕ → ℕ → List ℕ → Bool
 fits cap p t n vs = leb t 255 && (leb (value_size t n) (length vs) && leb (p + 4 + value_size t n) cap)
 
-unfoldable pub step_of : ℕ → ℕ → ℕ → ℕ → List ℕ → Step
-step_of cap p t n vs = cond (fits cap p t n vs) (S.Put (value_size t n) (length (object_bytes t n vs))) S.No
+-- an object was put
+abbrev pub step : ℕ → ℕ → Option Step
+step values bytes = Some (record { values = values; bytes = bytes })
+
+unfoldable pub step_of : ℕ → ℕ → ℕ → ℕ → List ℕ → Option Step
+step_of cap p t n vs = cond (fits cap p t n vs) (step (value_size t n) (length (object_bytes t n vs))) None
 
 -- the bytes of all words and values, or none
 pub data Glue : Type 0 where
@@ -43,20 +45,20 @@ glue cap p (t ∷ d ∷ a ∷ n ∷ ws) vs =
     (prepend (object_bytes t n vs) (glue cap (p + length (object_bytes t n vs)) ws (drop (value_size t n) vs)))
     none
 
-unfoldable pub glued_of : Glue → Glued
-glued_of (glued bs) = G.Bytes (length bs)
-glued_of none = G.No
+unfoldable pub glued_of : Glue → Option ℕ
+glued_of (glued bs) = Some (length bs)
+glued_of none = None
 
 unfoldable pub InRoom : Glue → List ℕ → List ℕ → Type 0
 InRoom (glued bs) out after = (after ≡ sets out 0 bs) × (length bs ≤ length out)
 InRoom none out after = Unit {0}
 
-pub record GluedIn (g : Glue) (r : Glued) (out after : List ℕ) : Type 0 where
+pub record GluedIn (g : Glue) (r : Option ℕ) (out after : List ℕ) : Type 0 where
   pub answer : r ≡ glued_of g
   pub bytes : InRoom g out after
 
 -- ws is the listing of s: 8,192 words are room for any
 unfoldable pub same_tree : List ℕ → List ℕ → Bool
 same_tree s ws =
-    eqb (tree_answer s (replicate 8192 0)).number 0
-    && same_list (take ((tree_answer s (replicate 8192 0)).count * 4) (tree_room s (replicate 8192 0))) ws
+    is_ok (tree_answer s (replicate 8192 0))
+    && same_list (take (count_of (tree_answer s (replicate 8192 0)) * 4) (tree_room s (replicate 8192 0))) ws

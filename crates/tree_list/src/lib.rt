@@ -6,9 +6,9 @@
 ghost use Rattle.std.specs.Prelude.{◌≡◌, [], ◌∷◌, ◌+◌, ◌-◌, ◌*◌, ◌<◌, ◌≤◌, length};
 ghost use Rattle.ground.specs.Rooms.{room_with};
 ghost use Rattle.tree.specs.Listing.{listing, object, Entry};
-ghost use Rattle.tree.specs.Answers.{words, Done, refuse, scanned, tree_answer, tree_room};
+ghost use Rattle.tree.specs.Answers.{words, Done, scanned, tree_answer, tree_room};
 
-use tree::{Head, Scan, TreeAnswer};
+use tree::{Head, Refusal, Scan};
 
 // Puts the words of one object from k on, where they fit.
 fn put_entry(room: &mut [u16], k: usize, tag: u8, depth: usize, at: usize, length: usize)
@@ -20,66 +20,58 @@ fn put_entry(room: &mut [u16], k: usize, tag: u8, depth: usize, at: usize, lengt
 
 // The object that the bytes begin with, and all that it holds.
 #[cycle(read_list_read_object)]
-fn read_object(bytes: &[u8], at: usize, left: usize, room: &mut [u16], k: usize) -> Scan
+fn read_object(
+    bytes: &[u8],
+    at: usize,
+    left: usize,
+    room: &mut [u16],
+    k: usize,
+) -> Result<Scan, Refusal>
     requires { (0 < length bytes.now) × ((at + length bytes.now ≤ 4096) × ((left ≤ 6) × (k ≤ 4 * at))) }
     ensures { Done k (object (7 - left) at bytes.now) result room.old room.new }
 {
-    let found = tree_heads::head_of(bytes, at, left);
-    match found {
-        Head::Refused(number, place) => Scan::Refused(number, place),
-        Head::Object(tag, start, length) => {
-            put_entry(room, k, tag, 7 - left, at, length);
-            let stop = start + length;
-            let behind = k + 4;
-            if tree_tags::is_list(tag) {
-                let inner = read_list(&bytes[start..stop], at + start, left - 1, room, behind);
-                match inner {
-                    Scan::Took(words, _) => Scan::Took(words, stop),
-                    Scan::Refused(number, place) => Scan::Refused(number, place),
-                }
-            } else {
-                Scan::Took(behind, stop)
-            }
-        }
+    let Head { tag, start, length } = tree_heads::head_of(bytes, at, left)?;
+    put_entry(room, k, tag, 7 - left, at, length);
+    let stop = start + length;
+    let behind = k + 4;
+    if !tree_tags::is_list(tag) {
+        return Ok(Scan {
+            words: behind,
+            used: stop,
+        });
     }
+    let inner = read_list(&bytes[start..stop], at + start, left - 1, room, behind)?;
+    Ok(Scan {
+        words: inner.words,
+        used: stop,
+    })
 }
 
 // The list reader and the object reader call each other: the bytes that remain fall, and so do the levels that are left.
 // The objects of the bytes, one after the other.
 #[cycle(read_list_read_object)]
-fn read_list(bytes: &[u8], at: usize, left: usize, room: &mut [u16], k: usize) -> Scan
+fn read_list(
+    bytes: &[u8],
+    at: usize,
+    left: usize,
+    room: &mut [u16],
+    k: usize,
+) -> Result<Scan, Refusal>
     requires { (at + length bytes.now ≤ 4096) × ((left ≤ 6) × (k ≤ 4 * at)) }
     ensures { Done k (listing (7 - left) at bytes.now) result room.old room.new }
 {
     let mut p = 0;
     let mut n = k;
     while p < bytes.len() {
-        let one = read_object(&bytes[p..], at + p, left, room, n);
-        match one {
-            Scan::Took(words, used) => {
-                n = words;
-                p = p + used;
-            }
-            Scan::Refused(number, place) => {
-                return Scan::Refused(number, place);
-            }
-        }
+        let one = read_object(&bytes[p..], at + p, left, room, n)?;
+        n = one.words;
+        p = p + one.used;
     }
-    Scan::Took(n, p)
-}
-
-fn refused(number: u8, place: u16) -> TreeAnswer
-    ensures { result ≡ refuse number place }
-{
-    TreeAnswer {
-        number,
-        place,
-        count: 0,
-    }
+    Ok(Scan { words: n, used: p })
 }
 
 // Whether the bytes are objects, and how many words their listing takes.
-fn survey(bytes: &[u8]) -> Scan
+fn survey(bytes: &[u8]) -> Result<Scan, Refusal>
     requires { length bytes.now ≤ 4096 }
     ensures { result ≡ scanned 0 (listing 1 0 bytes.now) }
 {
@@ -88,26 +80,17 @@ fn survey(bytes: &[u8]) -> Scan
 }
 
 // Lists all objects into the room, four words each.
-pub fn list_tree(bytes: &[u8], room: &mut [u16]) -> TreeAnswer
+pub fn list_tree(bytes: &[u8], room: &mut [u16]) -> Result<u16, Refusal>
     ensures value { result ≡ tree_answer bytes.now room.old }
     ensures room_after { room.new ≡ tree_room bytes.now room.old }
 {
     if 4096 < bytes.len() {
-        return refused(54, 0);
+        return Err(Refusal::new(54, 0));
     }
-    let first = survey(bytes);
-    match first {
-        Scan::Refused(number, place) => refused(number, place),
-        Scan::Took(words, _) => {
-            if room.len() < words {
-                return refused(55, 0);
-            }
-            read_list(bytes, 0, 6, room, 0);
-            TreeAnswer {
-                number: 0,
-                place: 0,
-                count: (words / 4) as u16,
-            }
-        }
+    let first = survey(bytes)?;
+    if room.len() < first.words {
+        return Err(Refusal::new(55, 0));
     }
+    read_list(bytes, 0, 6, room, 0)?;
+    Ok((first.words / 4) as u16)
 }

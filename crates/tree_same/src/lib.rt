@@ -4,34 +4,15 @@
 #![tactic(auto)]
 
 ghost use Rattle.std.specs.Prelude.{◌≡◌};
-ghost use Rattle.ground.specs.Lists.{same_list};
 ghost use Rattle.tree_back.specs.Glue.{same_tree};
-
-// Whether two runs of words are the same.
-fn same(words: &[u16], want: &[u16]) -> bool
-    ensures { result ≡ same_list words.now want.now }
-{
-    if words.len() != want.len() {
-        return false;
-    }
-    let mut i = 0;
-    while i < words.len() {
-        if words[i] != want[i] {
-            return false;
-        }
-        i += 1;
-    }
-    true
-}
 
 pub fn same_tree(bytes: &[u8], words: &[u16]) -> bool
     ensures { result ≡ same_tree bytes.now words.now }
 {
     let mut room = [0u16; 8192];
-    let listed = tree_list::list_tree(bytes, &mut room);
-    if listed.number != 0 {
+    let Ok(count) = tree_list::list_tree(bytes, &mut room) else {
         return false;
-    }
-    let end = listed.count as usize * 4;
-    same(&room[..end], words)
+    };
+    let end = count as usize * 4;
+    &room[..end] == words
 }

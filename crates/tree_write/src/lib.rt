@@ -6,84 +6,69 @@
 ghost use Rattle.std.specs.Prelude.{◌≡◌, true, ◌≤◌, length};
 ghost use Rattle.std.proofs.lemmas.List.Edits.{sets};
 ghost use Rattle.tree_back.specs.Glue.{object_bytes, fits, step_of, glue, GluedIn};
-ghost use Rattle.tree_back.specs.Sources.{backed, Back};
+ghost use Rattle.tree_back.specs.Sources.{Back};
 
-use tree_back::{BackAnswer, Glued, Step};
+use tree_back::{BackError, Step};
 
 // Puts one object from p on, its value from the head of the values.
-fn put_object(out: &mut [u8], p: usize, tag: u16, n: u16, values: &[u8]) -> Step
+fn put_object(out: &mut [u8], p: usize, tag: u16, n: u16, values: &[u8]) -> Option<Step>
     requires { p ≤ 8192 }
     ensures value { result ≡ step_of (length out.old) p tag n values.now }
     ensures out_after { fits (length out.old) p tag n values.now ≡ true → out.new ≡ sets out.old p (object_bytes tag n values.now) }
 {
     if 255 < tag {
-        return Step::No;
+        return None;
     }
     let size = tree_values::value_size(tag, n);
     if values.len() < size {
-        return Step::No;
+        return None;
     }
     if out.len() < p + 4 + size {
-        return Step::No;
+        return None;
     }
     out[p] = tag as u8;
     let start = lengths_put::put_length(out, p + 1, n);
     let end = ground_room::put(out, start, &values[..size]);
-    Step::Put(size, end - p)
+    Some(Step {
+        values: size,
+        bytes: end - p,
+    })
 }
 
 // Puts all objects, one after the other.
-fn glue_all(words: &[u16], values: &[u8], out: &mut [u8]) -> Glued
+fn glue_all(words: &[u16], values: &[u8], out: &mut [u8]) -> Option<usize>
     requires { length out.old ≤ 4100 }
     ensures { GluedIn (glue (length out.old) 0 words.now values.now) result out.old out.new }
 {
-    let mut i = 0;
     let mut p = 0;
     let mut q = 0;
-    while i < words.len() {
-        if words.len() - i < 4 {
-            return Glued::No;
-        }
-        let step = put_object(out, p, words[i], words[i + 3], &values[q..]);
-        match step {
-            Step::Put(size, count) => {
-                q = q + size;
-                p = p + count;
-                i = i + 4;
-            }
-            Step::No => {
-                return Glued::No;
-            }
-        }
+    for object in words.chunks_exact(4) {
+        let step = put_object(out, p, object[0], object[3], &values[q..])?;
+        q = q + step.values;
+        p = p + step.bytes;
+    }
+    if words.len() % 4 != 0 {
+        return None;
     }
     if q < values.len() {
-        return Glued::No;
+        return None;
     }
-    Glued::Bytes(p)
+    Some(p)
 }
 
-fn answer(number: u8, size: u16) -> BackAnswer
-    ensures { result ≡ backed number size }
-{
-    BackAnswer { number, size }
-}
-
-pub fn write_back(words: &[u16], values: &[u8], room: &mut [u8]) -> BackAnswer
+pub fn write_back(words: &[u16], values: &[u8], room: &mut [u8]) -> Result<u16, BackError>
     ensures { Back words.now values.now room.old result room.new }
 {
     let mut scratch = [0u8; 4100];
-    let glued = glue_all(words, values, &mut scratch);
-    match glued {
-        Glued::No => answer(56, 0),
-        Glued::Bytes(n) => {
-            if !tree_same::same_tree(&scratch[..n], words) {
-                return answer(56, 0);
-            }
-            if room.len() < n {
-                return answer(55, 0);
-            }
-            ground_room::put(room, 0, &scratch[..n]);
-            answer(0, n as u16)
-        }
+    let Some(n) = glue_all(words, values, &mut scratch) else {
+        return Err(BackError::Listing);
+    };
+    if !tree_same::same_tree(&scratch[..n], words) {
+        return Err(BackError::Listing);
     }
+    if room.len() < n {
+        return Err(BackError::Room);
+    }
+    ground_room::put(room, 0, &scratch[..n]);
+    Ok(n as u16)
 }

@@ -12,11 +12,9 @@ pub fn write_places(table: Places, room: &mut [u8])
         return;
     }
     let mut place: usize = 0;
-    let mut k: usize = 0;
-    while k < 16 {
+    for k in 0..16 {
         let start = table.starts[k];
         let length = table.lengths[k];
         place = ground_room::put(room, place, &[start, length]);
-        k += 1;
     }
 }

@@ -29,12 +29,10 @@ fn objects_of(part: &[u8]) -> [Object; 16]
     ensures { result ≡ map object_from (pieces 29 16 part.now) }
 {
     let mut objects = [Object::ABSENT; 16];
-    let mut k: usize = 0;
-    while k < 16 {
+    for k in 0..16 {
         let at = k * 29;
         let end = at + 29;
         objects[k] = object_of(&part[at..end]);
-        k += 1;
     }
     objects
 }
@@ -74,11 +72,8 @@ fn put_objects(room: &mut [u8], at: usize, content: Record) -> usize
     ensures by_index { (j : ℕ) → j < 16 → length (get_or content.objects j no_object).bytes ≡ 28 }
 {
     let mut place = at;
-    let mut k: usize = 0;
-    while k < 16 {
-        let item = content.objects[k];
-        place = put_object(room, place, item);
-        k += 1;
+    for item in &content.objects {
+        place = put_object(room, place, *item);
     }
     place
 }

@@ -1,29 +1,11 @@
 -- A table is 103 bytes: for each row required (0 or 1), rule (0 to 7), and the lengths in four bytes, high first; then the edition's number.
 use Rattle.std.specs.Prelude.{ℕ, ◌/◌, ◌%◌, ◌^◌, cond, ◌&&◌, List, [], ◌∷◌, ◌++◌, map, eqb, leb, length, get_or, replicate}
-use Rattle.rules.specs.declared.Rule.{Rule}
-use Rattle.rules.specs.declared.Rule.TheVariants.{Digits, Text, Lead, Code, Birth, Expiry, Raw, NotD}
 use Rattle.edition.specs.declared.Row.{Row}
 use Rattle.edition.specs.declared.Edition.{Edition}
 use Rattle.edition.specs.Rows.{no_row}
 use Rattle.ground.specs.Pieces.{four_bytes, pieces, joined}
-
 -- 0 digits, 1 text, 2 lead, 3 code, 4 birth, 5 expiry, 6 raw, 7 text other than the single letter D
-abbrev pub number_of : Rule → ℕ
-number_of Digits = 0
-number_of Text = 1
-number_of Lead = 2
-number_of Code = 3
-number_of Birth = 4
-number_of Expiry = 5
-number_of Raw = 6
-number_of NotD = 7
-
--- the rules before the last, by their numbers
-abbrev pub rules : List Rule
-rules = Digits ∷ Text ∷ Lead ∷ Code ∷ Birth ∷ Expiry ∷ Raw ∷ []
-
-abbrev pub rule_of : ℕ → Rule
-rule_of n = get_or rules n NotD
+pub use Rattle.nesting.specs.Decision.{number_of, rules, rule_of}
 
 -- a row of six bytes; one with another byte in its first two is not well formed: its set is empty
 unfoldable pub row_from : List ℕ → Row

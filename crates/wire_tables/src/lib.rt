@@ -6,42 +6,10 @@
 ghost use Rattle.std.specs.Prelude.{◌≡◌, cond, ◌&&◌, leb, length, ◌+◌, ◌≤◌};
 ghost use Rattle.ground.specs.Pieces.{four_bytes, joined};
 ghost use Rattle.ground.specs.Rooms.{Put};
-ghost use Rattle.wire_tables.specs.Tables.{number_of, rule_of, edition_from, lent_edition, row_bytes, table_bytes, table_room};
+ghost use Rattle.wire_tables.specs.Tables.{edition_from, lent_edition, row_bytes, table_bytes, table_room};
 
 use edition::{Edition, Row};
-use rules::Rule;
-
-fn number_of(rule: Rule) -> u8
-    ensures { result ≡ number_of rule }
-{
-    match rule {
-        Rule::Digits => 0,
-        Rule::Text => 1,
-        Rule::Lead => 2,
-        Rule::Code => 3,
-        Rule::Birth => 4,
-        Rule::Expiry => 5,
-        Rule::Raw => 6,
-        Rule::NotD => 7,
-    }
-}
-
-fn rule_of(number: u8) -> Rule
-    ensures { result ≡ rule_of number }
-{
-    if number > 6 {
-        return Rule::NotD;
-    }
-    match number {
-        0 => Rule::Digits,
-        1 => Rule::Text,
-        2 => Rule::Lead,
-        3 => Rule::Code,
-        4 => Rule::Birth,
-        5 => Rule::Expiry,
-        _ => Rule::Raw,
-    }
-}
+use nesting_rules::{number_of, rule_of};
 
 fn four_bytes(a: u8, b: u8, c: u8, d: u8) -> u32
     ensures { result ≡ four_bytes a b c d }
@@ -60,29 +28,21 @@ fn lengths_of(required: u8, rule: u8, lengths: u32) -> u32
     }
 }
 
-const BLANK: Row = Row {
-    required: false,
-    rule: Rule::Digits,
-    lengths: 0,
-};
-
 fn rows_of(table: &[u8]) -> [Row; 17]
     requires { length table.now ≡ 103 }
     ensures { result ≡ (edition_from table.now).rows }
 {
-    let mut rows = [BLANK; 17];
-    let mut k: usize = 0;
-    while k < 17 {
+    let mut rows = [Row::BLANK; 17];
+    for (k, row) in rows.iter_mut().enumerate() {
         let at = k * 6;
         let required = table[at];
         let rule = table[at + 1];
         let lengths = four_bytes(table[at + 2], table[at + 3], table[at + 4], table[at + 5]);
-        rows[k] = Row {
+        *row = Row {
             required: required == 1,
             rule: rule_of(rule),
             lengths: lengths_of(required, rule, lengths),
         };
-        k += 1;
     }
     rows
 }
@@ -93,7 +53,7 @@ pub fn edition_of(table: &[u8]) -> Edition
 {
     if table.len() != 103 {
         return Edition {
-            rows: [BLANK; 17],
+            rows: [Row::BLANK; 17],
             number: 0,
         };
     }
@@ -134,11 +94,8 @@ fn put_rows(room: &mut [u8], edition: Edition) -> usize
     ensures value { result ≡ 102 }
 {
     let mut place: usize = 0;
-    let mut k: usize = 0;
-    while k < 17 {
-        let row = edition.rows[k];
-        place = put_row(room, place, row);
-        k += 1;
+    for row in edition.rows.iter() {
+        place = put_row(room, place, *row);
     }
     place
 }

@@ -31,13 +31,11 @@ pub(crate) fn write_objects(room: &mut [u8], at: usize, bytes: &[u8]) -> usize
     ensures room_after { take result room.new ≡ take at room.old ++ objects_of (content_of (lent_record bytes.now)) }
 {
     let mut place = at;
-    let mut i: usize = 0;
-    while i < 16 {
+    for i in 0..16 {
         let tag = edition_tags::tag_of(i);
         let start = 14 + i * 29;
         let end = start + 29;
         place = write_object(room, place, tag, &bytes[start..end]);
-        i += 1;
     }
     place
 }

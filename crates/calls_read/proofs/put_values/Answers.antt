@@ -14,7 +14,7 @@ use Rattle.calls_read.proofs.Fills.{value_cut}
 use Rattle.calls_read.proofs.put_values.Goals as goal
 
 pub loop-k-init : goal.loop-k-init
-loop-k-init c = (omega arith, refl, omega arith, left_start _ _ _)
+loop-k-init c = (refl, omega arith, left_start _ _ _)
 
 pub overflow_add-stop : goal.overflow_add-stop
 overflow_add-stop c =
@@ -43,7 +43,7 @@ loop-k-preserved c =
     let same : length st ≡ length ls = omega arith in
     let h : l.k < length (values_at s st ls) = omega (arith, values_length s st ls same) in
     let next = joined_next value_bytes (values_at s st ls) l.k [] h ∙ ap (λ (v : List ℕ). value_bytes v ++ joined value_bytes (drop (l.k + 1) (values_at s st ls))) (value_cut s st ls l.k same) in
-    (omega arith, omega arith, omega (arith, c.put_value-place.ensures.value), left_next l.invariant.3 _ _ next c.put_value-place.ensures.put)
+    (omega arith, omega (arith, c.put_value-place.ensures.value), left_next l.invariant.2 _ _ next c.put_value-place.ensures.put)
 
 pub returns : goal.returns
 returns c =
@@ -54,4 +54,4 @@ returns c =
     let hs : length st ≡ 16 = omega (arith, c) in
     let hl : length ls ≡ 16 = omega (arith, c) in
     let e : l.k ≡ 16 = omega arith in
-    record { put = left_end l.invariant.3 (joined_end value_bytes (values_at s st ls) l.k (omega (arith, values_length s st ls (omega arith)))); value = omega arith }
+    record { put = left_end l.invariant.2 (joined_end value_bytes (values_at s st ls) l.k (omega (arith, values_length s st ls (omega arith)))); value = omega arith }

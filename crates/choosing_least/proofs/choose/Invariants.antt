@@ -7,6 +7,3 @@ use Rattle.choosing_least.proofs.choose.Given as goal
 abbrev pub invariant-loop-code : goal.invariant-loop-code
 invariant-loop-code l =
     Kept (weight_at l.long l.names l.a l.b l.c) l.best l.least l.code
-
-abbrev pub decreases-loop-code : goal.decreases-loop-code
-decreases-loop-code l = 24389 - l.code

@@ -10,18 +10,18 @@ use Rattle.day.proofs.Padded.{length_padded, entry_more, entry_stored}
 use Rattle.day_cards.proofs.entry_of.Goals as goal
 
 pub loop-i-init : goal.loop-i-init
-loop-i-init c = (search rules, refl, refl)
+loop-i-init c = (refl, refl)
 
 pub loop-i-preserved : goal.loop-i-preserved
 loop-i-preserved c =
     let l = c.loop-i in
     let v = value_of c.args.number in
     let n = length_padded v in
-    (search rules, simp length-set (omega arith), entry_more (padded v) l.bytes l.i c.padded_at.result (omega arith) (omega arith) c.padded_at.ensures l.invariant.2)
+    (simp length-set (omega arith), entry_more (padded v) l.bytes l.i c.padded_at.result (omega arith) (omega arith) c.padded_at.ensures l.invariant.1)
 
 pub returns : goal.returns
 returns c =
     let l = c.loop-i in
     let v = value_of c.args.number in
     let e : l.i ≡ 12 = omega arith in
-    entry_stored v l.bytes c.args.position l.invariant.1 ((rw e at l.invariant.2) ∙ take_all 12 (padded v) (omega (arith, length_padded v)))
+    entry_stored v l.bytes c.args.position l.invariant.0 ((rw e at l.invariant.1) ∙ take_all 12 (padded v) (omega (arith, length_padded v)))

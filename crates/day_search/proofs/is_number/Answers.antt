@@ -1,12 +1,34 @@
--- `day_search::is_number` meets its contract. The invariant: what is passed with what is left makes the whole. Assumes nothing.
-use mathlib.Core.Path.{sym, ◌∙◌}
-use mathlib.Core.Bool.{true, false}
+-- `is_number` meets its contract: as many bytes lead as digits as there are bytes exactly where each is a digit. Assumes nothing.
+use Prim.Native.Nat.{ℕ, suc}
+use mathlib.Core.Path.{◌≡◌, refl, sym, ◌∙◌}
+use mathlib.Core.Bool.{Bool, true, false, cond, ◌&&◌}
+use mathlib.Core.List.{List, [], ◌∷◌}
 use native.Mathlib.Omega.{arith}
-use lib.ListN.{get_or}
+use borrow.Author.Tests.{eqb-true, eqb-false, eq-eqb, ne_eqb, le-leb}
+use lib.Dec.{eqb}
+use lib.ListN.{length}
+use Rattle.std.specs.List.{list_all}
 use Rattle.rules.specs.Values.{is_digit}
-use Rattle.ground.proofs.Lists.{leading_pass, leading_stop, leading_end}
-use Rattle.day.proofs.Finding.{digit_test, number_short, number_long, number_odd, number_right}
+use Rattle.ground.specs.Lists.{leading}
+use Rattle.day.specs.Calls.{number_formed}
+use Rattle.day.proofs.Finding.{number_short, number_long}
 use Rattle.day_search.proofs.is_number.Goals as goal
+
+eqb_suc : (m n : ℕ) → eqb m n ≡ eqb (suc m) (suc n)
+eqb_suc m n = go (eqb m n) refl
+  where
+    go : (t : Bool) → eqb m n ≡ t → eqb m n ≡ eqb (suc m) (suc n)
+    go true e = e ∙ sym (eq-eqb (suc m) (suc n) (omega (arith, eqb-true m n e)))
+    go false e = e ∙ sym (ne_eqb (suc m) (suc n) (λ z. eqb-false m n e (omega arith)))
+
+all_leading : (p : ℕ → Bool) (xs : List ℕ) → list_all p xs ≡ eqb (leading p xs) (length xs)
+unfolding leading
+all_leading p [] = refl
+all_leading p (x ∷ xs) = go (p x) (all_leading p xs)
+  where
+    go : (t : Bool) → list_all p xs ≡ eqb (leading p xs) (length xs) → (t && list_all p xs) ≡ eqb (cond t (suc (leading p xs)) 0) (suc (length xs))
+    go true ih = ih ∙ eqb_suc (leading p xs) (length xs)
+    go false ih = sym (ne_eqb 0 (suc (length xs)) (λ z. omega arith))
 
 pub returns-then-bytes-lt6 : goal.returns-then-bytes-lt6
 returns-then-bytes-lt6 c = sym (number_short c.args.bytes.now c.if-bytes-lt6.true)
@@ -14,25 +36,8 @@ returns-then-bytes-lt6 c = sym (number_short c.args.bytes.now c.if-bytes-lt6.tru
 pub returns-then-bytes-gt12 : goal.returns-then-bytes-gt12
 returns-then-bytes-gt12 c = sym (number_long c.args.bytes.now (omega arith) c.if-bytes-gt12.true)
 
-pub loop-i-init : goal.loop-i-init
-loop-i-init c = (omega arith, omega arith)
-
-pub returns-then-bytes-i : goal.returns-then-bytes-i
-returns-then-bytes-i c =
-    let l = c.loop-i in
-    let s = c.args.bytes.now in
-    let e = leading_stop is_digit 0 s l.i (omega arith) (digit_test (get_or s l.i 0) true c.if-bytes-i.true) in
-    sym (number_odd s (omega arith) (omega arith) (omega (arith, e)))
-
-pub loop-i-preserved : goal.loop-i-preserved
-loop-i-preserved c =
-    let l = c.loop-i in
-    let s = c.args.bytes.now in
-    (omega arith, sym (leading_pass is_digit 0 s l.i (omega arith) (digit_test (get_or s l.i 0) false c.if-bytes-i.false)) ∙ l.invariant.1)
-
 pub returns : goal.returns
+unfolding number_formed
 returns c =
-    let l = c.loop-i in
     let s = c.args.bytes.now in
-    let e = leading_end is_digit 0 s l.i (omega arith) in
-    sym (number_right s (omega arith) (omega arith) (omega (arith, e)))
+    rw (le-leb 6 (length s) (omega arith), le-leb (length s) 12 (omega arith)) (c.are_digits.ensures ∙ all_leading is_digit s)

@@ -33,7 +33,7 @@ returns c =
     let a = c.args in
     let n = length a.index.now / 14 in
     let h : a.k < n = omega arith in
-    ap₂ (λ (x y : ℕ). x * 256 + y) c.wide.ensures.0 c.wide-2.ensures.0
+    ap₂ (λ (x y : ℕ). x * 256 + y) c.from.ensures c.from-2.ensures
     ∙ position_lent a.index.now n a.k h
     ∙ like a.key.now (entries_in a.index.now) n a.k (length_pieces 14 n a.index.now) h
     (ap (λ (x : List ℕ). same_list x (take 12 a.key.now)) (sym (front_lent a.index.now n a.k h)) ∙ sym c.is_same.ensures ∙ c.if-not-is_same.false)

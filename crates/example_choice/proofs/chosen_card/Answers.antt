@@ -6,17 +6,17 @@ use Rattle.example.proofs.Chosen.{chosen_here, chosen_turn, chosen_all}
 use Rattle.example_choice.proofs.chosen_card.Goals as goal
 
 pub loop-long-init : goal.loop-long-init
-loop-long-init c = (search rules, refl)
+loop-long-init c = refl
 
 pub returns-then-objects_size-ge70 : goal.returns-then-objects_size-ge70
 returns-then-objects_size-ge70 c =
-    chosen_here _ _ _ _ _ c.objects_size.result c.card_of-record.ensures c.objects_size.ensures.value c.loop-long.invariant.1 c.if-objects_size-ge70.true
+    chosen_here _ _ _ _ _ c.objects_size.result c.card_of-record.ensures c.objects_size.ensures.value c.loop-long.invariant c.if-objects_size-ge70.true
 
 pub loop-long-preserved : goal.loop-long-preserved
 loop-long-preserved c =
-    (search rules, chosen_turn _ _ _ _ _ c.objects_size.result c.card_of-record.ensures c.objects_size.ensures.value c.loop-long.invariant.1 (omega arith) c.if-objects_size-ge70.false)
+    chosen_turn _ _ _ _ _ c.objects_size.result c.card_of-record.ensures c.objects_size.ensures.value c.loop-long.invariant (omega arith) c.if-objects_size-ge70.false
 
 pub returns : goal.returns
 returns c =
     let l = c.loop-long in
-    c.card_of.ensures ∙ chosen_all _ _ _ l.long l.invariant.1 (omega arith)
+    c.card_of.ensures ∙ chosen_all _ _ _ l.long l.invariant (omega arith)

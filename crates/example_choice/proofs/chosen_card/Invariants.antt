@@ -5,7 +5,4 @@ use Rattle.example.specs.Cards.{enough, first_from}
 use Rattle.example_choice.proofs.chosen_card.Given as goal
 
 abbrev pub invariant-loop-long : goal.invariant-loop-long
-invariant-loop-long l = (l.long ≤ 16) × (first_from (enough l.inner l.outer l.told) 16 0 ≡ first_from (enough l.inner l.outer l.told) (16 - l.long) l.long)
-
-abbrev pub decreases-loop-long : goal.decreases-loop-long
-decreases-loop-long l = 16 - l.long
+invariant-loop-long l = first_from (enough l.inner l.outer l.told) 16 0 ≡ first_from (enough l.inner l.outer l.told) (16 - l.long) l.long

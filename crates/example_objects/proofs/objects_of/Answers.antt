@@ -14,20 +14,19 @@ use Rattle.example_objects.proofs.objects_of.Goals as goal
 
 pub loop-k-init : goal.loop-k-init
 unfolding listed
-loop-k-init c = (search rules, refl, refl)
+loop-k-init c = (refl, refl)
 
 pub loop-k-preserved : goal.loop-k-preserved
 loop-k-preserved c =
     let l = c.loop-k in
-    let h : l.k < length l.objects = omega arith in
+    let h : l.k < length l.object-items = omega arith in
     let i : Row = get_or c.args.inner l.k no_row in
     let o : Row = get_or c.args.outer l.k no_row in (
-      search rules,
       simp length-set (omega arith),
-      listed_more object_of _ l.objects l.k l.invariant.2 h
+      listed_more object_of _ l.object-items l.k l.invariant.1 h
           (c.object_for.ensures
-          ∙ ap (λ (n : ℕ). object_of (value_for c.part_of-part.result i o n)) c.length_at.ensures
-          ∙ ap (λ (p : ℕ). object_of (value_for p i o (length_at c.rows_for-rows.result c.args.long l.k))) c.part_of-part.ensures),
+          ∙ ap (λ (n : ℕ). object_of (value_for c.part_of.result i o n)) c.length_at.ensures
+          ∙ ap (λ (p : ℕ). object_of (value_for p i o (length_at c.rows_for-rows.result c.args.long l.k))) c.part_of.ensures),
     )
 
 pub returns : goal.returns
@@ -35,6 +34,6 @@ unfolding values_of
 returns c =
     let l = c.loop-k in
     let e : l.k ≡ 16 = omega arith in
-    let made : l.objects ≡ map object_of (listed 16 (value_at c.args.inner c.args.outer c.rows_for-rows.result c.args.told c.args.long)) =
-    rw e at (listed_all object_of _ l.objects l.k l.invariant.2 (omega arith)) in
+    let made : l.object-items ≡ map object_of (listed 16 (value_at c.args.inner c.args.outer c.rows_for-rows.result c.args.told c.args.long)) =
+    rw e at (listed_all object_of _ l.object-items l.k l.invariant.1 (omega arith)) in
     rw c.rows_for-rows.ensures at made

@@ -8,8 +8,4 @@ use Rattle.example.specs.Cards.{listed, value_at}
 use Rattle.example_objects.proofs.objects_of.Given as goal
 
 abbrev pub invariant-loop-k : goal.invariant-loop-k
-invariant-loop-k l =
-    (l.k ≤ 16) × (length l.objects ≡ 16) × (take l.k l.objects ≡ map object_of (listed l.k (value_at l.inner l.outer l.rows l.told l.long)))
-
-abbrev pub decreases-loop-k : goal.decreases-loop-k
-decreases-loop-k l = 16 - l.k
+invariant-loop-k l = (length l.object-items ≡ 16) × (take l.k l.object-items ≡ map object_of (listed l.k (value_at l.inner l.outer l.rows l.told l.long)))

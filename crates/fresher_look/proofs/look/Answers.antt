@@ -4,4 +4,4 @@ use Rattle.fresher_look.proofs.look.Goals as goal
 
 pub returns : goal.returns
 unfolding card_of
-returns c = rw (c.months_of.ensures, c.part_at-validity.ensures, c.places-table.ensures)
+returns c = rw (c.validity_in.ensures, c.part_at-validity.ensures, c.places-table.ensures)

@@ -8,4 +8,4 @@ pub returns : goal.returns
 unfolding later
 returns c =
     let d = c.apart-months in
-    rw (to_z-of_z {w = w32} {z = d.result} (record { sfits = d.type_inv }), d.ensures, c.none.ensures, c.choose.ensures, c.choose-2.ensures)
+    rw (c.requires.0, c.requires.1, to_z-of_z {w = w32} {z = d.result} (record { sfits = d.type_inv }), d.ensures, c.none.ensures, c.pick.ensures, c.pick-2.ensures)

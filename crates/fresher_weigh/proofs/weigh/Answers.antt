@@ -1,9 +1,9 @@
 -- `fresher_weigh::weigh` meets its contract, by its tests in the order of the definition. Assumes nothing.
-use mathlib.Core.Path.{◌≡◌}
-use mathlib.Core.Bool.{true, false, ◌&&◌}
+use mathlib.Core.Path.{◌≡◌, ap}
+use mathlib.Core.Bool.{true, false}
 use borrow.Author.Tests.{eq-eqb, ne_eqb}
 use Rattle.card.specs.Refusals.{gate}
-use Rattle.fresher.specs.Comparing.{weighed}
+use Rattle.fresher.specs.Comparing.{dated, weighed}
 use Rattle.fresher_weigh.proofs.weigh.Goals as goal
 
 pub returns-then-first-ne0 : goal.returns-then-first-ne0
@@ -17,16 +17,28 @@ returns-then-other-ne0 c =
     let some : a.b.refusal.number ≡ 0 → ⊥ = c.if-other-ne0.true in
     rw (eq-eqb _ _ c.if-first-ne0.false, ne_eqb _ _ some) c.refuse-then-other-ne0.ensures
 
-pub returns-then-not-expiry-a : goal.returns-then-not-expiry-a
+pub returns-then-not-expiry : goal.returns-then-not-expiry
 unfolding weighed gate
-returns-then-not-expiry-a c =
-    let a = c.args in
-    let h : a.expiry && (a.a.dated && a.b.dated) ≡ false = c.if-not-expiry-a.true in
-    rw (eq-eqb _ _ c.if-first-ne0.false, eq-eqb _ _ c.if-other-ne0.false, h, ← c.new.ensures) c.refuse-then-not-expiry-a.ensures
+returns-then-not-expiry c =
+    let off : c.args.expiry ≡ false = c.if-not-expiry.true in
+    rw (eq-eqb _ _ c.if-first-ne0.false, eq-eqb _ _ c.if-other-ne0.false, off) c.undated.ensures
+
+pub returns-in-None : goal.returns-in-None
+unfolding weighed gate
+returns-in-None c =
+    let on : c.args.expiry ≡ true = c.if-not-expiry.false in
+    rw (eq-eqb _ _ c.if-first-ne0.false, eq-eqb _ _ c.if-other-ne0.false, on, c.in-None.is) c.undated-in-None.ensures
+
+pub returns-in-None-months : goal.returns-in-None-months
+unfolding weighed gate
+returns-in-None-months c =
+    let on : c.args.expiry ≡ true = c.if-not-expiry.false in
+    rw (eq-eqb _ _ c.if-first-ne0.false, eq-eqb _ _ c.if-other-ne0.false, on, c.in-Some.is, c.in-None-months.is) c.undated-in-None-months.ensures
 
 pub returns : goal.returns
 unfolding weighed gate
 returns c =
-    let a = c.args in
-    let h : a.expiry && (a.a.dated && a.b.dated) ≡ true = c.if-not-expiry-a.false in
-    rw (eq-eqb _ _ c.if-first-ne0.false, eq-eqb _ _ c.if-other-ne0.false, h) c.compare_dates.ensures
+    let on : c.args.expiry ≡ true = c.if-not-expiry.false in
+    let first : dated c.args.a.months ≡ true = ap dated c.in-Some.is in
+    let second : dated c.args.b.months ≡ true = ap dated c.in-Some-months.is in
+    rw (eq-eqb _ _ c.if-first-ne0.false, eq-eqb _ _ c.if-other-ne0.false, on, first, second) c.compare_dates.ensures

@@ -9,7 +9,7 @@ use Rattle.front.proofs.Marks.{row_below, rows_here, rows_next, rows_end}
 use Rattle.front_marks.proofs.has_underscores.Goals as goal
 
 pub loop-i-init : goal.loop-i-init
-loop-i-init c = (omega (arith, c.first_printed-i.ensures.upper_bound), ap (λ (rs : List ℕ). underscored (content_of c.args.content) rs) c.first_printed-i.ensures.other_rows_value)
+loop-i-init c = ap (λ (rs : List ℕ). underscored (content_of c.args.content) rs) c.first_printed-first.ensures.other_rows_value
 
 pub offset_bounds-content-row : goal.offset_bounds-content-row
 offset_bounds-content-row c = omega (arith, row_below c.loop-i.i (omega arith))
@@ -20,15 +20,15 @@ bounds-content-row c = row_below c.loop-i.i (omega arith)
 pub returns-then-has_underscore : goal.returns-then-has_underscore
 returns-then-has_underscore c =
     let l = c.loop-i in
-    sym (sym l.invariant.1 ∙ rows_here c.args.content l.i (omega arith) (sym c.if-has_underscore.true ∙ c.has_underscore.ensures))
+    sym (sym l.invariant ∙ rows_here c.args.content l.i (omega arith) (sym c.if-has_underscore.true ∙ c.has_underscore.ensures))
 
 pub loop-i-preserved : goal.loop-i-preserved
 loop-i-preserved c =
     let l = c.loop-i in
-    (omega arith, sym (rows_next c.args.content l.i (omega arith) (sym c.if-has_underscore.false ∙ c.has_underscore.ensures)) ∙ l.invariant.1)
+    sym (rows_next c.args.content l.i (omega arith) (sym c.if-has_underscore.false ∙ c.has_underscore.ensures)) ∙ l.invariant
 
 pub returns : goal.returns
 returns c =
     let l = c.loop-i in
-    let e : l.i ≡ 10 = omega arith in
-    sym (sym (rw e at l.invariant.1) ∙ rows_end c.args.content)
+    let e : l.i ≡ 10 = omega (arith, c.first_printed-first.ensures.upper_bound) in
+    sym (sym (rw e at l.invariant) ∙ rows_end c.args.content)

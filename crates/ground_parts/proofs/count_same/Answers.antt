@@ -1,39 +1,27 @@
--- `ground_parts::count_same` meets its contract. The invariant: what is passed with what is left makes the whole; behind the shorter list nothing agrees. Assumes nothing.
-use mathlib.Core.Path.{◌≡◌, sym, ap, ◌∙◌}
-use Prim.Native.Nat.{◌+◌, ◌-◌, ◌≤◌}
-use native.Mathlib.Omega.{arith}
-use lib.ListN.{length, drop, drop_of_length-le}
-use Rattle.ground.specs.Lists.{agree}
-use Rattle.ground.proofs.Lists.{agree_pass, agree_stop, agree_end, agree_none_left}
+-- `ground_parts::count_same` meets its contract: the chain counts the pairs at the head that are alike. Assumes nothing.
+use mathlib.Core.Path.{◌∙◌}
+use mathlib.Core.Bool.{Bool}
+use Prim.Native.Nat.{ℕ}
+use borrow.Author.Rules.{rules}
+use borrow.Author.Tests.{tests}
+use lib.Dec.{eqb}
+use lib.ListN.{take}
+use Rattle.std.specs.List.{zip}
+use Rattle.std.proofs.lemmas.Iterator.{YieldsList-from_slice, YieldsList-from_zip}
+use Rattle.std.proofs.lemmas.Iterator.Consumers.{count_from_yields_List}
+use Rattle.std.proofs.lemmas.Iterator.Search.{YieldsList-from_take_while}
+use Rattle.std.proofs.lemmas.List.Folds.{length-prefix_len}
+use Rattle.ground.proofs.Lists.{agree_pairs}
 use Rattle.ground_parts.proofs.count_same.Goals as goal
 
-pub loop-i-init : goal.loop-i-init
-loop-i-init c = (omega arith, omega arith, omega arith)
-
-pub returns-then-i-part : goal.returns-then-i-part
-returns-then-i-part c =
-    let l = c.loop-i in
-    let a = c.args in
-    let e : l.i ≡ length a.part.now = omega arith in
-    let z : agree (drop l.i a.want.now) (drop l.i a.part.now) ≡ 0 = ap (agree (drop l.i a.want.now)) (drop_of_length-le a.part.now {i = l.i} (omega arith)) ∙ agree_none_left _ in
-    omega arith
-
-pub returns-then-part-i : goal.returns-then-part-i
-returns-then-part-i c =
-    let l = c.loop-i in
-    let a = c.args in
-    sym (agree_stop a.want.now a.part.now l.i (omega arith) (omega arith) (λ e. c.if-part-i.true (sym e))) ∙ l.invariant.2
-
-pub loop-i-preserved : goal.loop-i-preserved
-loop-i-preserved c =
-    let l = c.loop-i in
-    let a = c.args in
-    (omega arith, omega arith, sym (agree_pass a.want.now a.part.now l.i (omega arith) (omega arith) (sym c.if-part-i.false)) ∙ l.invariant.2)
+abbrev alike : ℕ × ℕ → Bool
+alike p = eqb p.0 p.1
 
 pub returns : goal.returns
 returns c =
-    let l = c.loop-i in
-    let a = c.args in
-    let e : l.i ≡ length a.want.now = omega arith in
-    let z : agree (drop l.i a.want.now) (drop l.i a.part.now) ≡ 0 = rw e (agree_end a.want.now _) in
-    omega arith
+    let n = c.min-n.result in
+    let part = take n c.args.part.now in
+    let want = take n c.args.want.now in
+    count_from_yields_List c.take_while.result _ c.count.ensures.ran (YieldsList-from_take_while _ alike (YieldsList-from_zip (YieldsList-from_slice part (cc)) (YieldsList-from_slice want (cc))) c.take_while.ensures.closure c.take_while.ensures.done (λ x b q k. search (rules, tests)))
+    ∙ length-prefix_len alike (zip part want)
+    ∙ agree_pairs c.args.want.now c.args.part.now n c.min-n.ensures

@@ -1,5 +1,7 @@
 -- `letters_spelled::to_utf8`: the invariant says that what is spelled and what is left make the whole; a put that did not move shows that the room is full. Assumes nothing.
-use mathlib.Core.Path.{sym, ◌∙◌}
+use mathlib.Core.Path.{◌≡◌, sym, ◌∙◌}
+use native.Mathlib.Omega.{arith}
+use lib.ListN.{length}
 use Rattle.letters.proofs.Spelt.{spelling_start, spelling_next, spelling_end, spelling_full, at_end, without, was_put}
 use Rattle.ground.proofs.Puts.{put_there}
 use Rattle.letters_spelled.proofs.to_utf8.Goals as goal
@@ -39,4 +41,8 @@ pub shape_of-room : goal.shape_of-room
 shape_of-room c = c.loop-taken.invariant.same
 
 pub returns : goal.returns
-returns c = record { value = (spelling_end c.loop-taken.invariant (at_end c.loop-taken.invariant c.loop-taken-test.false)).0; room_after = (spelling_end c.loop-taken.invariant (at_end c.loop-taken.invariant c.loop-taken-test.false)).1 }
+returns c =
+    let l = c.loop-taken.invariant in
+    let all : length c.args.bytes.now ≡ c.loop-taken.taken = omega arith in
+    let end = spelling_end l (at_end l c.loop-taken-test.false) in
+    record { value = rw all end.0; room_after = end.1 }

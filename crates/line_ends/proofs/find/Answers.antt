@@ -1,31 +1,34 @@
--- `line_ends::find`: what is passed with what is left makes the whole. Assumes nothing.
+-- `line_ends::find`: what is passed with what is left makes the whole; past the end nothing is left. Assumes nothing.
+use Prim.Native.Nat.{◌≤◌}
 use native.Mathlib.Omega.{arith}
-use mathlib.Core.Path.{refl, sym, ◌∙◌}
-use lib.ListN.{get_or}
+use mathlib.Core.Path.{◌≡◌, sym, ◌∙◌}
+use lib.ListN.{length, get_or}
 use Rattle.card_lines.specs.Lines.{other}
-use Rattle.ground.proofs.Lists.{leading_pass, leading_stop}
+use Rattle.ground.proofs.Lists.{leading_pass, leading_stop, leading_end}
 use Rattle.card_lines.proofs.Splits.{leading_past, is_other, is_byte}
 use Rattle.line_ends.proofs.find.Goals as goal
 
-pub loop-end-init : goal.loop-end-init
-loop-end-init c = (omega arith, (λ h. h), refl)
+pub returns-then-at-text-clause-value : goal.returns-then-at-text-clause-value
+returns-then-at-text-clause-value c =
+    let a = c.args in
+    let h : length a.text.now ≤ a.at = omega arith in
+    sym (leading_past (other a.byte) a.text.now a.at h)
 
-pub returns-then-text-end : goal.returns-then-text-end
-returns-then-text-end c =
+pub returns-then-text-end-clause-value : goal.returns-then-text-end-clause-value
+returns-then-text-end-clause-value c =
     let l = c.loop-end in
-    let a = c.args in record { value = sym (leading_stop (other a.byte) 0 a.text.now l.end (omega arith) (is_byte a.byte (get_or a.text.now l.end 0) c.if-text-end.true)) ∙ l.invariant.2; lower_bound = (l.invariant.0, l.invariant.1) }
+    let a = c.args in
+    sym (leading_stop (other a.byte) 0 a.text.now l.end (omega arith) (is_byte a.byte (get_or a.text.now l.end 0) c.if-text-end.true)) ∙ l.invariant
 
 pub loop-end-preserved : goal.loop-end-preserved
 loop-end-preserved c =
     let l = c.loop-end in
-    let a = c.args in (
-      omega arith,
-      (λ h. omega arith),
-      sym (leading_pass (other a.byte) 0 a.text.now l.end (omega arith) (is_other a.byte (get_or a.text.now l.end 0) c.if-text-end.false)) ∙ l.invariant.2,
-    )
+    let a = c.args in
+    sym (leading_pass (other a.byte) 0 a.text.now l.end (omega arith) (is_other a.byte (get_or a.text.now l.end 0) c.if-text-end.false)) ∙ l.invariant
 
-pub returns : goal.returns
-returns c =
+pub returns-clause-value : goal.returns-clause-value
+returns-clause-value c =
     let l = c.loop-end in
     let a = c.args in
-    record { value = sym (leading_past (other a.byte) a.text.now l.end c.loop-end-test.false) ∙ l.invariant.2; lower_bound = (l.invariant.0, l.invariant.1) }
+    let e : l.end ≡ length a.text.now = omega (arith, l.auto) in
+    sym e ∙ sym (leading_end (other a.byte) 0 a.text.now l.end e) ∙ l.invariant

@@ -5,10 +5,9 @@ use native.Mathlib.Omega.{arith}
 use borrow.Author.Tests.{not-true, not-false}
 use lib.ListN.{length, get_or, take, drop, length-drop}
 use lib.Seq.{length-take-le}
-use Rattle.rules.specs.declared.Verdict.{Verdict}
 use Rattle.rules.proofs.Verdicts.{told_apart}
 use Rattle.rules.specs.Kinds.{judged_by}
-use Rattle.rules.specs.Values.{ToldVerdict, verdict_told}
+use Rattle.rules.specs.Values.{Verdict, ToldVerdict, verdict_told}
 use Rattle.card.specs.Walk.{Seen}
 use Rattle.objects.specs.Objects.{found_told, found_of, valued}
 use Rattle.objects.proofs.Finds.{index_within, found_cut, found_unlisted, found_overlong, found_weighed, weighed_found}

@@ -12,7 +12,7 @@ use Rattle.reader.proofs.copy_objects.Goals as goal
 
 pub loop-i-init : goal.loop-i-init
 unfolding object_of
-loop-i-init c = (omega arith, refl)
+loop-i-init c = refl
 
 pub overflow_add-stop : goal.overflow_add-stop
 overflow_add-stop c =
@@ -26,8 +26,8 @@ slice_bounds-copy_object-end c =
     c.requires.within c.loop-i.i (omega arith) in
     inside-at
 
-pub copy_object-object-requires : goal.copy_object-object-requires
-copy_object-object-requires c =
+pub copy_object-requires : goal.copy_object-requires
+copy_object-requires c =
     simp length-take (omega (arith, c.requires.short c.loop-i.i (omega arith)))
 
 pub loop-i-preserved : goal.loop-i-preserved
@@ -41,7 +41,7 @@ loop-i-preserved c =
     let many = values_length s st ls (omega arith) in
     let copies = length-map (values_at s st ls) object_of in
     let next = object_of_lem s st ls l.i (omega arith) in
-    (omega arith, rw (l.invariant.1, c.copy_object-object.ensures, ← next) (copied_more (map object_of (values_at s st ls)) (object_of []) absent 16 l.i (omega arith) (omega arith)))
+    rw (l.invariant, c.copy_object.ensures, ← next) (copied_more (map object_of (values_at s st ls)) (object_of []) absent 16 l.i (omega arith) (omega arith))
 
 pub returns : goal.returns
 returns c =
@@ -52,4 +52,4 @@ returns c =
     let e : l.i ≡ 16 = omega arith in
     let many = values_length a.image.now a.starts a.lengths (omega arith) in
     let copies = length-map (values_at a.image.now a.starts a.lengths) object_of in
-    l.invariant.1 ∙ rw (e, append-nil) (take_all 16 (map object_of (values_at a.image.now a.starts a.lengths)) (omega arith))
+    l.invariant ∙ rw (e, append-nil) (take_all 16 (map object_of (values_at a.image.now a.starts a.lengths)) (omega arith))

@@ -15,7 +15,7 @@ use Rattle.rules_judge.proofs.Bits.{leading_bits}
 use Rattle.rules_judge.proofs.count_taken.Goals as goal
 
 pub loop-i-init : goal.loop-i-init
-loop-i-init c = (search rules, zero-add _)
+loop-i-init c = zero-add _
 
 pub returns-then-not-has : goal.returns-then-not-has
 returns-then-not-has c =
@@ -23,12 +23,12 @@ returns-then-not-has c =
     let a = c.args in
     ap (λ (x : Characters). leading (has_byte x) a.v.now) c.characters_of-characters.ensures ∙ leading_bits a.rule a.v.now (λ k l. omega (arith, c.type_inv.v k)) in
     let f = has_byte c.characters_of-characters.result in
-    sym (leading_stop f 0 c.args.v.now c.loop-i.i (omega arith) (sym c.has.ensures ∙ c.if-not-has.true)) ∙ c.loop-i.invariant.1 ∙ right
+    sym (leading_stop f 0 c.args.v.now c.loop-i.i (omega arith) (sym c.has.ensures ∙ c.if-not-has.true)) ∙ c.loop-i.invariant ∙ right
 
 pub loop-i-preserved : goal.loop-i-preserved
 loop-i-preserved c =
     let f = has_byte c.characters_of-characters.result in
-    (search rules, sym (leading_pass f 0 c.args.v.now c.loop-i.i (omega arith) (sym c.has.ensures ∙ c.if-not-has.false)) ∙ c.loop-i.invariant.1)
+    sym (leading_pass f 0 c.args.v.now c.loop-i.i (omega arith) (sym c.has.ensures ∙ c.if-not-has.false)) ∙ c.loop-i.invariant
 
 pub returns : goal.returns
 returns c =
@@ -36,4 +36,5 @@ returns c =
     let a = c.args in
     ap (λ (x : Characters). leading (has_byte x) a.v.now) c.characters_of-characters.ensures ∙ leading_bits a.rule a.v.now (λ k l. omega (arith, c.type_inv.v k)) in
     let f = has_byte c.characters_of-characters.result in
-    sym (leading_end f 0 c.args.v.now c.loop-i.i (omega arith)) ∙ c.loop-i.invariant.1 ∙ right
+    let all : c.loop-i.i ≡ length c.args.v.now = omega arith in
+    sym all ∙ sym (leading_end f 0 c.args.v.now c.loop-i.i all) ∙ c.loop-i.invariant ∙ right

@@ -15,7 +15,4 @@ use Rattle.rules_judge.proofs.Bits.{leading_bits}
 use Rattle.rules_judge.proofs.count_taken.Given as goal
 
 abbrev pub invariant-loop-i : goal.invariant-loop-i
-invariant-loop-i l = (l.i ≤ length l.v) × (l.i + leading (has_byte l.characters) (drop l.i l.v) ≡ leading (has_byte l.characters) l.v)
-
-abbrev pub decreases-loop-i : goal.decreases-loop-i
-decreases-loop-i l = length l.v - l.i
+invariant-loop-i l = l.i + leading (has_byte l.characters) (drop l.i l.v) ≡ leading (has_byte l.characters) l.v

@@ -7,7 +7,4 @@ use Rattle.table_take.specs.Splitting.{is_kind}
 use Rattle.take_cuts.proofs.behind.Given as goal
 
 abbrev pub invariant-loop-i : goal.invariant-loop-i
-invariant-loop-i l = (l.at ≤ l.i) × (l.i - length l.text ≤ l.at - length l.text) × (l.i + leading (is_kind l.kind) (drop l.i l.text) ≡ l.at + leading (is_kind l.kind) (drop l.at l.text))
-
-abbrev pub decreases-loop-i : goal.decreases-loop-i
-decreases-loop-i l = length l.text - l.i
+invariant-loop-i l = (l.i - length l.text ≤ l.at - length l.text) × (l.i + leading (is_kind l.kind) (drop l.i l.text) ≡ l.at + leading (is_kind l.kind) (drop l.at l.text))

@@ -5,16 +5,16 @@ use Rattle.table_take.specs.Numbers.{with_byte, number_of}
 use Rattle.table_take.proofs.Splits.{through_next, through_end}
 use Rattle.take_numbers.proofs.number_of.Goals as goal
 
-pub loop-i-init : goal.loop-i-init
-loop-i-init c = (omega arith, refl)
+pub loop-b-init : goal.loop-b-init
+loop-b-init c = refl
 
-pub loop-i-preserved : goal.loop-i-preserved
-loop-i-preserved c =
-    let l = c.loop-i in
-    (omega arith, rw c.with_byte-number.ensures (sym (through_next with_byte 0 c.args.word.now l.i l.number (omega arith)) ∙ l.invariant.1))
+pub loop-b-preserved : goal.loop-b-preserved
+loop-b-preserved c =
+    let l = c.loop-b in
+    rw c.with_byte-number.ensures (sym (through_next with_byte 0 c.args.word.now l.b-index l.number (omega arith)) ∙ l.invariant)
 
 pub returns : goal.returns
 unfolding number_of
 returns c =
-    let l = c.loop-i in
-    sym (through_end with_byte 0 c.args.word.now l.i l.number (omega arith)) ∙ l.invariant.1
+    let l = c.loop-b in
+    sym (through_end with_byte 0 c.args.word.now l.b-index l.number (omega arith)) ∙ l.invariant

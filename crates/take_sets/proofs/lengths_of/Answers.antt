@@ -9,16 +9,16 @@ pub returns-then-is_word : goal.returns-then-is_word
 unfolding lengths_of
 returns-then-is_word c = rw (sym c.is_word.ensures ∙ c.if-is_word.true)
 
-pub loop-i-init : goal.loop-i-init
-loop-i-init c = (omega arith, refl)
+pub loop-sign-init : goal.loop-sign-init
+loop-sign-init c = refl
 
-pub loop-i-preserved : goal.loop-i-preserved
-loop-i-preserved c =
-    let l = c.loop-i in
-    (omega arith, rw c.with_sign-item.ensures (sym (through_next with_sign 0 c.args.word.now l.i l.item (omega arith)) ∙ l.invariant.1))
+pub loop-sign-preserved : goal.loop-sign-preserved
+loop-sign-preserved c =
+    let l = c.loop-sign in
+    rw c.with_sign-item.ensures (sym (through_next with_sign 0 c.args.word.now l.sign-index l.item (omega arith)) ∙ l.invariant)
 
 pub returns : goal.returns
 unfolding lengths_of
 returns c =
-    let l = c.loop-i in
-    rw (sym c.is_word.ensures ∙ c.if-is_word.false, ← l.invariant.1, through_end with_sign 0 c.args.word.now l.i l.item (omega arith)) c.closed.ensures
+    let l = c.loop-sign in
+    rw (sym c.is_word.ensures ∙ c.if-is_word.false, ← l.invariant, through_end with_sign 0 c.args.word.now l.sign-index l.item (omega arith)) c.closed.ensures

@@ -6,6 +6,3 @@ use Rattle.take_sets.proofs.with_range.Given as goal
 
 abbrev pub invariant-loop-n : goal.invariant-loop-n
 invariant-loop-n l = with_range l.all l.n (l.last + 1 - l.n) ≡ with_range l.set l.first (l.last + 1 - l.first)
-
-abbrev pub decreases-loop-n : goal.decreases-loop-n
-decreases-loop-n l = l.last + 1 - l.n

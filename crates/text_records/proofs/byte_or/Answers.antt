@@ -6,8 +6,8 @@ use Rattle.card_text.specs.Hex.{byte_at}
 use Rattle.card_text.proofs.Told.{byte_other, byte_said}
 use Rattle.text_records.proofs.byte_or.Goals as goal
 
-pub returns-then-line_of-eq0 : goal.returns-then-line_of-eq0
-returns-then-line_of-eq0 c = byte_other _ _ _ _ c.line_of.ensures c.if-line_of-eq0.true
+pub returns-then-is_none : goal.returns-then-is_none
+returns-then-is_none c = byte_other _ _ _ _ c.line_of.ensures c.if-is_none.ensures
 
 pub returns : goal.returns
-returns c = c.byte_at.ensures ∙ ap (λ (v : List ℕ). byte_at v 0) c.value.ensures ∙ byte_said _ _ _ _ c.line_of.ensures c.if-line_of-eq0.false
+returns c = c.byte_at.ensures ∙ ap (λ (v : List ℕ). byte_at v 0) c.value.ensures ∙ byte_said _ _ _ _ c.line_of.ensures c.if-is_none.ensures

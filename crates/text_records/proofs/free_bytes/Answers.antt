@@ -11,17 +11,17 @@ use Rattle.text_records.proofs.free_bytes.Goals as goal
 
 pub loop-i-init : goal.loop-i-init
 unfolding listed
-loop-i-init c = (omega arith, refl, refl)
+loop-i-init c = (refl, refl)
 
 pub loop-i-preserved : goal.loop-i-preserved
 loop-i-preserved c =
     let l = c.loop-i in
     let h : l.i < length l.free = omega arith in
-    (omega arith, simp length-set (omega arith), listed_more (byte_at c.args.value.now) l.free l.i l.invariant.2 h c.byte_at.ensures)
+    (simp length-set (omega arith), listed_more (byte_at c.args.value.now) l.free l.i l.invariant.1 h c.byte_at.ensures)
 
 pub returns : goal.returns
 unfolding free_said
 returns c =
     let l = c.loop-i in
     let e : l.i ≡ 12 = omega arith in
-    rw e at (listed_all (byte_at c.args.value.now) l.free l.i l.invariant.2 (omega arith))
+    rw e at (listed_all (byte_at c.args.value.now) l.free l.i l.invariant.1 (omega arith))

@@ -1,37 +1,40 @@
 -- The survey says how it ends, and the second reading fills the room.
 use Rattle.std.proofs.Common.{◌∙◌, arith}
+use Rattle.std.proofs.lemmas.Result.{err_from_is_err_and}
 use Rattle.tree.proofs.Whole.{too_long, tree_refused, tree_small, tree_listed, few_words}
 use Rattle.tree_list.proofs.list_tree.Goals as goal
 
 pub returns-then-bytes-gt4096-clause-value : goal.returns-then-bytes-gt4096-clause-value
-returns-then-bytes-gt4096-clause-value c = c.refused.ensures ∙ (too_long c.args.bytes.now c.args.room.now c.if-bytes-gt4096.true).0
+returns-then-bytes-gt4096-clause-value c = rw c.new.ensures (too_long c.args.bytes.now c.args.room.now c.if-bytes-gt4096.true).0
 
 pub returns-then-bytes-gt4096-clause-room_after : goal.returns-then-bytes-gt4096-clause-room_after
 returns-then-bytes-gt4096-clause-room_after c = (too_long c.args.bytes.now c.args.room.now c.if-bytes-gt4096.true).1
 
-pub returns-then-room-words-clause-value : goal.returns-then-room-words-clause-value
-returns-then-room-words-clause-value c =
-    c.refused-then-room-words.ensures ∙ (tree_small c.args.bytes.now c.args.room.now c.if-bytes-gt4096.false c.in-Took.words c.in-Took.field-1 c.in-Took.ensures c.if-room-words.true).0
+pub returns-in_err-first-clause-value : goal.returns-in_err-first-clause-value
+returns-in_err-first-clause-value c =
+    let x = c.in_err-first.field-0.0 in
+    let p = err_from_is_err_and c.from_residual.result c.from_residual.ensures.1 in
+    rw (p.1, p.2) (tree_refused c.args.bytes.now c.args.room.now c.if-bytes-gt4096.false x.number x.place c.in_err-first.ensures).0
 
-pub returns-then-room-words-clause-room_after : goal.returns-then-room-words-clause-room_after
-returns-then-room-words-clause-room_after c =
-    (tree_small c.args.bytes.now c.args.room.now c.if-bytes-gt4096.false c.in-Took.words c.in-Took.field-1 c.in-Took.ensures c.if-room-words.true).1
+pub returns-in_err-first-clause-room_after : goal.returns-in_err-first-clause-room_after
+returns-in_err-first-clause-room_after c =
+    let x = c.in_err-first.field-0.0 in
+    (tree_refused c.args.bytes.now c.args.room.now c.if-bytes-gt4096.false x.number x.place c.in_err-first.ensures).1
+
+pub returns-then-room-first-clause-value : goal.returns-then-room-first-clause-value
+returns-then-room-first-clause-value c =
+    rw c.new-then-room-first.ensures (tree_small c.args.bytes.now c.args.room.now c.if-bytes-gt4096.false c.in_ok-first.first.words c.in_ok-first.first.used c.in_ok-first.ensures c.if-room-first.true).0
+
+pub returns-then-room-first-clause-room_after : goal.returns-then-room-first-clause-room_after
+returns-then-room-first-clause-room_after c = (tree_small c.args.bytes.now c.args.room.now c.if-bytes-gt4096.false c.in_ok-first.first.words c.in_ok-first.first.used c.in_ok-first.ensures c.if-room-first.true).1
 
 pub overflow_cast-result : goal.overflow_cast-result
-overflow_cast-result c = omega (arith, few_words c.args.bytes.now c.args.room.now c.in-Took.words c.in-Took.field-1 c.in-Took.ensures)
+overflow_cast-result c = omega (arith, few_words c.args.bytes.now c.args.room.now c.in_ok-first.first.words c.in_ok-first.first.used c.in_ok-first.ensures)
 
-pub returns-in-Refused-clause-value : goal.returns-in-Refused-clause-value
-returns-in-Refused-clause-value c =
-    c.refused-in-Refused.ensures ∙ (tree_refused c.args.bytes.now c.args.room.now c.if-bytes-gt4096.false c.in-Refused.number c.in-Refused.place c.in-Refused.ensures).0
+pub returns-clause-value : goal.returns-clause-value
+returns-clause-value c =
+    (tree_listed c.args.bytes.now c.args.room.now c.if-bytes-gt4096.false c.in_ok-first.first.words c.in_ok-first.first.used c.in_ok-first.ensures c.if-room-first.false c.read_list.result c.read_list.new.room c.read_list.ensures).0
 
-pub returns-in-Refused-clause-room_after : goal.returns-in-Refused-clause-room_after
-returns-in-Refused-clause-room_after c =
-    (tree_refused c.args.bytes.now c.args.room.now c.if-bytes-gt4096.false c.in-Refused.number c.in-Refused.place c.in-Refused.ensures).1
-
-pub returns-else-room-words-clause-value : goal.returns-else-room-words-clause-value
-returns-else-room-words-clause-value c =
-    (tree_listed c.args.bytes.now c.args.room.now c.if-bytes-gt4096.false c.in-Took.words c.in-Took.field-1 c.in-Took.ensures c.if-room-words.false c.read_list.result c.read_list.new.room c.read_list.ensures).0
-
-pub returns-else-room-words-clause-room_after : goal.returns-else-room-words-clause-room_after
-returns-else-room-words-clause-room_after c =
-    (tree_listed c.args.bytes.now c.args.room.now c.if-bytes-gt4096.false c.in-Took.words c.in-Took.field-1 c.in-Took.ensures c.if-room-words.false c.read_list.result c.read_list.new.room c.read_list.ensures).1
+pub returns-clause-room_after : goal.returns-clause-room_after
+returns-clause-room_after c =
+    (tree_listed c.args.bytes.now c.args.room.now c.if-bytes-gt4096.false c.in_ok-first.first.words c.in_ok-first.first.used c.in_ok-first.ensures c.if-room-first.false c.read_list.result c.read_list.new.room c.read_list.ensures).1

@@ -2,7 +2,6 @@
 use mathlib.Core.Path.{◌≡◌, refl}
 use Prim.Native.Nat.{◌+◌, ◌*◌, ◌≤◌, ◌<◌}
 use native.Mathlib.Omega.{arith}
-use borrow.Author.Rules.{rules}
 use lib.ListN.{length, length-set}
 use Rattle.ground.specs.Pieces.{pieces}
 use Rattle.wire_records.specs.Records.{object_from}
@@ -11,7 +10,7 @@ use Rattle.wire_records.proofs.objects_of.Goals as goal
 
 pub loop-k-init : goal.loop-k-init
 unfolding pieces
-loop-k-init c = (search rules, refl, refl)
+loop-k-init c = (refl, refl)
 
 pub object_of-requires : goal.object_of-requires
 object_of-requires c =
@@ -22,10 +21,10 @@ pub loop-k-preserved : goal.loop-k-preserved
 loop-k-preserved c =
     let l = c.loop-k in
     let h : l.k < length l.objects = omega arith in
-    (search rules, simp length-set (omega arith), stored_more object_from 29 _ l.objects l.k l.invariant.2 h c.object_of.ensures)
+    (simp length-set (omega arith), stored_more object_from 29 _ l.objects l.k l.invariant.1 h c.object_of.ensures)
 
 pub returns : goal.returns
 returns c =
     let l = c.loop-k in
     let e : l.k ≡ 16 = omega arith in
-    rw e at (stored_all object_from 29 _ l.objects l.k l.invariant.2 (omega arith))
+    rw e at (stored_all object_from 29 _ l.objects l.k l.invariant.1 (omega arith))

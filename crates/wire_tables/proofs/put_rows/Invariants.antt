@@ -7,9 +7,6 @@ use Rattle.ground.proofs.Puts.{Left}
 use Rattle.wire_tables.specs.Tables.{row_bytes}
 use Rattle.wire_tables.proofs.put_rows.Given as goal
 
-abbrev pub invariant-loop-k : goal.invariant-loop-k
-invariant-loop-k l =
-    (l.k ≤ 17) × (length l.room ≡ length l.initial.room) × (l.place ≡ l.k * 6) × Left l.initial.room 0 (joined row_bytes l.edition.rows) l.room l.place (joined row_bytes (drop l.k l.edition.rows))
-
-abbrev pub decreases-loop-k : goal.decreases-loop-k
-decreases-loop-k l = 17 - l.k
+abbrev pub invariant-loop-row : goal.invariant-loop-row
+invariant-loop-row l =
+    (l.place ≡ l.row-index * 6) × Left l.initial.room 0 (joined row_bytes l.fn.edition.rows) l.room l.place (joined row_bytes (drop l.row-index l.fn.edition.rows))

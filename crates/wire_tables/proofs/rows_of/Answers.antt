@@ -12,16 +12,15 @@ use Rattle.wire_tables.proofs.rows_of.Goals as goal
 
 pub loop-k-init : goal.loop-k-init
 unfolding pieces
-loop-k-init c = (search rules, refl, refl)
+loop-k-init c = (refl, refl)
 
 pub loop-k-preserved : goal.loop-k-preserved
 loop-k-preserved c =
     let l = c.loop-k in
     let six : l.k * 6 + 6 - l.k * 6 ≡ 6 = omega arith in
-    let h : l.k < length l.rows = omega arith in (
-      search rules,
+    let h : l.k < length l.row-items = omega arith in (
       simp length-set (omega arith),
-      stored_more row_from 6 _ l.rows l.k l.invariant.2 h
+      stored_more row_from 6 _ l.row-items l.k l.invariant.1 h
           (rw (c.lengths_of.ensures, c.rule_of.ensures, c.four_bytes-lengths.ensures, six) (row_at c.args.table.now (l.k * 6))),
     )
 
@@ -30,4 +29,4 @@ unfolding edition_from
 returns c =
     let l = c.loop-k in
     let e : l.k ≡ 17 = omega arith in
-    rw e at (stored_all row_from 6 _ l.rows l.k l.invariant.2 (omega arith))
+    rw e at (stored_all row_from 6 _ l.row-items l.k l.invariant.1 (omega arith))

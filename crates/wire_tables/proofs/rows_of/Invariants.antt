@@ -8,7 +8,4 @@ use Rattle.wire_tables.specs.Tables.{row_from}
 use Rattle.wire_tables.proofs.rows_of.Given as goal
 
 abbrev pub invariant-loop-k : goal.invariant-loop-k
-invariant-loop-k l = (l.k ≤ 17) × (length l.rows ≡ 17) × (take l.k l.rows ≡ map row_from (pieces 6 l.k l.table))
-
-abbrev pub decreases-loop-k : goal.decreases-loop-k
-decreases-loop-k l = 17 - l.k
+invariant-loop-k l = (length l.row-items ≡ 17) × (take l.k l.row-items ≡ map row_from (pieces 6 l.k l.table))

@@ -25,4 +25,4 @@ returns-clause-value c =
 pub returns-clause-room_after : goal.returns-clause-room_after
 unfolding gate kvk_differences kvk_differences_room
 returns-clause-room_after c =
-    rw (eq-eqb _ _ c.if-room-ne30.false) (c.put_words.ensures ∙ ap (λ (x : Differences). x.entries) c.compared-found.ensures)
+    rw (eq-eqb _ _ c.if-room-ne30.false) (c.copy_from_slice.ensures.after ∙ ap (λ (x : Differences). x.entries) c.compared-found.ensures)

@@ -14,7 +14,7 @@ use Rattle.checks.proofs.rows.check_rows.Goals as goal
 pub loop-i-init : goal.loop-i-init
 loop-i-init c =
     let a = c.args in
-    (omega arith, rows_start a.edition (lent_record a.bytes.now))
+    rows_start a.edition (lent_record a.bytes.now)
 
 pub slice_bounds-check_row-end : goal.slice_bounds-check_row-end
 slice_bounds-check_row-end c = omega (arith, c.requires.0)
@@ -32,7 +32,7 @@ returns-then-refusal-ne0 c =
     let l = c.loop-i in
     let bs = c.args.bytes.now in
     let is = rw (object_part bs c.requires.0 l.i (omega arith)) at c.check_row-refusal.ensures in
-    sym (rows_stop c.args.edition.rows (lent_record bs).objects l.i (omega arith) (seventeen) (lent_count bs c.requires.0) _ c.tag_of.ensures is c.if-refusal-ne0.true) ∙ l.invariant.1
+    sym (rows_stop c.args.edition.rows (lent_record bs).objects l.i (omega arith) (seventeen) (lent_count bs c.requires.0) _ c.tag_of.ensures is c.if-refusal-ne0.true) ∙ l.invariant
 
 pub loop-i-preserved : goal.loop-i-preserved
 loop-i-preserved c =
@@ -40,11 +40,11 @@ loop-i-preserved c =
     let l = c.loop-i in
     let bs = c.args.bytes.now in
     let is = rw (object_part bs c.requires.0 l.i (omega arith)) at c.check_row-refusal.ensures in
-    (omega arith, rows_pass c.args.edition.rows (lent_record bs).objects l.i (omega arith) (seventeen) (lent_count bs c.requires.0) _ c.tag_of.ensures is c.if-refusal-ne0.false ∙ l.invariant.1)
+    rows_pass c.args.edition.rows (lent_record bs).objects l.i (omega arith) (seventeen) (lent_count bs c.requires.0) _ c.tag_of.ensures is c.if-refusal-ne0.false ∙ l.invariant
 
 pub returns : goal.returns
 returns c =
     let l = c.loop-i in
     let a = c.args in
     let e : l.i ≡ 16 = omega arith in
-    sym (rows_end a.edition.rows (lent_record a.bytes.now).objects) ∙ (rw e at l.invariant.1)
+    sym (rows_end a.edition.rows (lent_record a.bytes.now).objects) ∙ (rw e at l.invariant)

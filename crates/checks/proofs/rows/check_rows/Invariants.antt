@@ -1,6 +1,5 @@
 -- `checks::rows::check_rows` meets its contract. The invariant: the rows passed refuse nothing, so the answer is that of the rows from i on. Assumes nothing.
 use mathlib.Core.Path.{◌≡◌}
-use Prim.Native.Nat.{◌-◌, ◌≤◌}
 use Rattle.card.specs.Content.{content_of}
 use Rattle.card.specs.Rules.{object_rows}
 use Rattle.card.specs.Refusing.{rows_refusal}
@@ -10,7 +9,4 @@ use Rattle.checks.proofs.rows.check_rows.Given as goal
 
 abbrev pub invariant-loop-i : goal.invariant-loop-i
 invariant-loop-i l =
-    (l.i ≤ 16) × (rows_from l.i l.edition.rows (lent_record l.bytes).objects ≡ rows_refusal (object_rows l.edition) (content_of (lent_record l.bytes)).values)
-
-abbrev pub decreases-loop-i : goal.decreases-loop-i
-decreases-loop-i l = 16 - l.i
+    rows_from l.i l.edition.rows (lent_record l.bytes).objects ≡ rows_refusal (object_rows l.edition) (content_of (lent_record l.bytes)).values

@@ -11,7 +11,7 @@ use Rattle.differences.proofs.Words.{objects_next, objects_end, part_value}
 use Rattle.differences.proofs.spots.put_objects.Goals as goal
 
 pub loop-i-init : goal.loop-i-init
-loop-i-init c = (omega arith, refl, omega arith, left_start _ _ _)
+loop-i-init c = (refl, omega arith, left_start _ _ _)
 
 pub overflow_add-b : goal.overflow_add-b
 overflow_add-b c =
@@ -45,7 +45,7 @@ object_entry-entry-requires c =
 pub put_entry-count-requires : goal.put_entry-count-requires
 put_entry-count-requires c =
     let l = c.loop-i in
-    omega (arith, l.invariant.1, l.invariant.2, c.requires.0)
+    omega (arith, l.invariant.0, l.invariant.1, c.requires.0)
 
 pub loop-i-preserved : goal.loop-i-preserved
 loop-i-preserved c =
@@ -61,10 +61,10 @@ loop-i-preserved c =
     (values_length a.first.now a.starts a.lengths (omega arith) ∙ hs) (values_length a.second.now a.others a.sizes (omega arith) ∙ ks) h
     _ c.tag_of.ensures _ _ (part_value a.first.now a.starts a.lengths l.i (omega arith)) (part_value a.second.now a.others a.sizes l.i (omega arith))
     _ c.object_entry-entry.ensures in
-    (omega arith, omega (arith, c.put_entry-count.auto.room, l.invariant.1), omega (arith, c.put_entry-count.ensures.place, some_few c.object_entry-entry.result, l.invariant.2), left_next l.invariant.3 _ _ next c.put_entry-count.ensures)
+    (omega (arith, c.put_entry-count.auto.room, l.invariant.0), omega (arith, c.put_entry-count.ensures.place, some_few c.object_entry-entry.result, l.invariant.1), left_next l.invariant.2 _ _ next c.put_entry-count.ensures)
 
 pub returns : goal.returns
 returns c =
     let l = c.loop-i in
     let e : l.i ≡ 16 = omega arith in
-    record { put = left_end l.invariant.3 (objects_end _ _ l.i e); upper_bound = omega (arith, l.invariant.2) }
+    record { put = left_end l.invariant.2 (objects_end _ _ l.i e); upper_bound = omega (arith, l.invariant.1) }

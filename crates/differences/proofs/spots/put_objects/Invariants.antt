@@ -1,6 +1,6 @@
 -- `differences::spots::put_objects` meets its contract. The invariant: what is left to put, from the i-th object on, makes the whole. Assumes nothing.
 use mathlib.Core.Path.{◌≡◌}
-use Prim.Native.Nat.{◌-◌, ◌≤◌}
+use Prim.Native.Nat.{◌≤◌}
 use lib.ListN.{length}
 use Rattle.ground.proofs.Puts.{Left}
 use Rattle.reader_steps.specs.Steps.{values_at}
@@ -10,8 +10,5 @@ use Rattle.differences.proofs.spots.put_objects.Given as goal
 
 abbrev pub invariant-loop-i : goal.invariant-loop-i
 invariant-loop-i l =
-    (l.i ≤ 16) × (length l.room ≡ length l.initial.room) × (l.count ≤ l.i)
+    (length l.room ≡ length l.initial.room) × (l.count ≤ l.i)
     × Left l.initial.room 0 (object_words (values_at l.first l.starts l.lengths) (values_at l.second l.others l.sizes)) l.room l.count (objects_from l.i (values_at l.first l.starts l.lengths) (values_at l.second l.others l.sizes))
-
-abbrev pub decreases-loop-i : goal.decreases-loop-i
-decreases-loop-i l = 16 - l.i

@@ -9,13 +9,13 @@ use Rattle.host.proofs.asking.parse.Goals as goal
 
 pub returns-then-command-ne5 : goal.returns-then-command-ne5
 unfolding command_of gate
-returns-then-command-ne5 c = rw (ne_eqb _ _ c.if-command-ne5.true) c.misfit.ensures
+returns-then-command-ne5 c = rw (ne_eqb _ _ c.if-command-ne5.true)
 
 pub returns-then-count-eq0 : goal.returns-then-count-eq0
 unfolding command_of gate
 returns-then-count-eq0 c =
     let zero : count_of c.args.command.now ≡ 0 = c.if-count-eq0.true in
-    rw (eq-eqb _ _ c.if-command-ne5.false, eq-eqb _ _ zero) c.misfit-then-count-eq0.ensures
+    rw (eq-eqb _ _ c.if-command-ne5.false, eq-eqb _ _ zero)
 
 pub returns-then-not-command : goal.returns-then-not-command
 unfolding command_of gate
@@ -23,7 +23,7 @@ returns-then-not-command c =
     let a = c.args in
     let count : count_of a.command.now ≡ 0 → ⊥ = c.if-count-eq0.false in
     let other : is_reading a.command.now ≡ false = c.if-not-command.true in
-    rw (eq-eqb _ _ c.if-command-ne5.false, ne_eqb _ _ count, other) c.misfit-then-not-command.ensures
+    rw (eq-eqb _ _ c.if-command-ne5.false, ne_eqb _ _ count, other)
 
 pub returns : goal.returns
 unfolding command_of gate

@@ -6,25 +6,25 @@ use Rattle.rebuilding.specs.Rebuilding.{tag_in, names_tag}
 use Rattle.rebuilding.proofs.Named.{among_here, among_behind, among_end}
 use Rattle.rebuilding.proofs.listed.names_tag.Goals as goal
 
-pub loop-i-init : goal.loop-i-init
-loop-i-init c = (omega arith, refl)
+pub loop-entry-init : goal.loop-entry-init
+loop-entry-init c = refl
 
-pub returns-then-entries-i : goal.returns-then-entries-i
+pub returns-then-tag_of-tag : goal.returns-then-tag_of-tag
 unfolding names_tag
-returns-then-entries-i c =
-    let l = c.loop-i in
+returns-then-tag_of-tag c =
+    let l = c.loop-entry in
     let n = length-map c.args.entries.now tag_in in
-    sym (among_here _ _ l.i (omega arith) (get_or-map tag_in c.args.entries.now l.i 0 ∙ c.if-entries-i.true)) ∙ l.invariant.1
+    sym (among_here _ _ l.entry-index (omega arith) (get_or-map tag_in c.args.entries.now l.entry-index 0 ∙ sym c.tag_of.ensures ∙ c.if-tag_of-tag.true)) ∙ l.invariant
 
-pub loop-i-preserved : goal.loop-i-preserved
-loop-i-preserved c =
-    let l = c.loop-i in
+pub loop-entry-preserved : goal.loop-entry-preserved
+loop-entry-preserved c =
+    let l = c.loop-entry in
     let n = length-map c.args.entries.now tag_in in
-    (omega arith, sym (among_behind _ _ l.i (omega arith) (λ e. c.if-entries-i.false (sym (get_or-map tag_in c.args.entries.now l.i 0) ∙ e))) ∙ l.invariant.1)
+    sym (among_behind _ _ l.entry-index (omega arith) (λ e. c.if-tag_of-tag.false (c.tag_of.ensures ∙ sym (get_or-map tag_in c.args.entries.now l.entry-index 0) ∙ e))) ∙ l.invariant
 
 pub returns : goal.returns
 unfolding names_tag
 returns c =
-    let l = c.loop-i in
+    let l = c.loop-entry in
     let n = length-map c.args.entries.now tag_in in
-    sym (among_end _ _ l.i (omega arith)) ∙ l.invariant.1
+    sym (among_end _ _ l.entry-index (omega arith)) ∙ l.invariant

@@ -13,7 +13,7 @@ use borrow.Author.Rules.{rules}
 use Rattle.rebuilding.proofs.mending.mend_free.Goals as goal
 
 pub loop-i-init : goal.loop-i-init
-loop-i-init c = (omega arith, search rules, refl, search rules, search rules, refl)
+loop-i-init c = (search rules, refl, search rules, search rules, refl)
 
 pub loop-i-preserved : goal.loop-i-preserved
 loop-i-preserved c =
@@ -22,15 +22,15 @@ loop-i-preserved c =
     let a = c.args in
     let listed = names_address a.entries.now in
     let i = l.invariant in
-    let many = mended_length listed free_addresses a.first a.second i.3 i.4 in
+    let many = mended_length listed free_addresses a.first a.second i.2 i.3 in
     let h : l.i < 12 = omega arith in
-    let is = put.ensures ∙ ap (λ (xs : List ℕ). cond (listed (get_or xs l.i 0)) (get_or a.second l.i 0) (get_or a.first l.i 0)) i.2 in
-    (omega arith, simp length-set i.1, i.2, i.3, i.4, stored_next _ _ l.i i.5 0 _ (omega (arith, i.1)) (omega (arith, many)) (is ∙ sym (mended_at listed free_addresses a.first a.second 0 l.i i.3 i.4 h)))
+    let is = put.ensures ∙ ap (λ (xs : List ℕ). cond (listed (get_or xs l.i 0)) (get_or a.second l.i 0) (get_or a.first l.i 0)) i.1 in
+    (simp length-set i.0, i.1, i.2, i.3, stored_next _ _ l.i i.4 0 _ (omega (arith, i.0)) (omega (arith, many)) (is ∙ sym (mended_at listed free_addresses a.first a.second 0 l.i i.2 i.3 h)))
 
 pub returns : goal.returns
 returns c =
     let l = c.loop-i in
     let a = c.args in
     let e : l.i ≡ 12 = omega arith in
-    let many = mended_length (names_address a.entries.now) free_addresses a.first a.second l.invariant.3 l.invariant.4 in
-    stored_end _ _ l.i l.invariant.5 (omega (arith, l.invariant.1)) (omega (arith, many))
+    let many = mended_length (names_address a.entries.now) free_addresses a.first a.second l.invariant.2 l.invariant.3 in
+    stored_end _ _ l.i l.invariant.4 (omega (arith, l.invariant.0)) (omega (arith, many))

@@ -1,6 +1,5 @@
 -- `rebuilding::mending::mend_free` meets its contract. The invariant: the first i bytes are those of the whole. Assumes nothing.
 use mathlib.Core.Path.{◌≡◌}
-use Prim.Native.Nat.{◌-◌, ◌≤◌}
 use lib.ListN.{length, take}
 use Rattle.differences.specs.Differences.{free_addresses}
 use Rattle.rebuilding.specs.Rebuilding.{names_address, mended}
@@ -8,7 +7,4 @@ use Rattle.rebuilding.proofs.mending.mend_free.Given as goal
 
 abbrev pub invariant-loop-i : goal.invariant-loop-i
 invariant-loop-i l =
-    (l.i ≤ 12) × (length l.free ≡ 12) × (l.addresses ≡ free_addresses) × (length l.first ≡ 12) × (length l.second ≡ 12) × (take l.i l.free ≡ take l.i (mended (names_address l.entries) free_addresses l.first l.second))
-
-abbrev pub decreases-loop-i : goal.decreases-loop-i
-decreases-loop-i l = 12 - l.i
+    (length l.free ≡ 12) × (l.addresses ≡ free_addresses) × (length l.first ≡ 12) × (length l.second ≡ 12) × (take l.i l.free ≡ take l.i (mended (names_address l.entries) free_addresses l.first l.second))

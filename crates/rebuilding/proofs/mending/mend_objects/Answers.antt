@@ -16,7 +16,7 @@ use borrow.Author.Rules.{rules}
 use Rattle.rebuilding.proofs.mending.mend_objects.Goals as goal
 
 pub loop-i-init : goal.loop-i-init
-loop-i-init c = (omega arith, search rules, search rules, search rules, refl)
+loop-i-init c = (search rules, search rules, search rules, refl)
 
 pub loop-i-preserved : goal.loop-i-preserved
 loop-i-preserved c =
@@ -27,14 +27,14 @@ loop-i-preserved c =
     let i = l.invariant in
     let h : l.i < 16 = omega arith in
     let at = c.tag_of.ensures ∙ sym (get_or-take 16 tags l.i 0 h) in
-    let many = mended_length listed object_tags a.first a.second (i.2 ∙ sym tags_16) (i.3 ∙ sym tags_16) in
+    let many = mended_length listed object_tags a.first a.second (i.1 ∙ sym tags_16) (i.2 ∙ sym tags_16) in
     let is = put.ensures ∙ ap (λ (t : ℕ). cond (listed t) (get_or a.second l.i no_object) (get_or a.first l.i no_object)) at in
-    (omega arith, simp length-set i.1, i.2, i.3, stored_next _ _ l.i i.4 no_object _ (omega (arith, i.1)) (omega (arith, many, tags_16)) (is ∙ sym (mended_at listed object_tags a.first a.second no_object l.i (i.2 ∙ sym tags_16) (i.3 ∙ sym tags_16) (omega (arith, tags_16)))))
+    (simp length-set i.0, i.1, i.2, stored_next _ _ l.i i.3 no_object _ (omega (arith, i.0)) (omega (arith, many, tags_16)) (is ∙ sym (mended_at listed object_tags a.first a.second no_object l.i (i.1 ∙ sym tags_16) (i.2 ∙ sym tags_16) (omega (arith, tags_16)))))
 
 pub returns : goal.returns
 returns c =
     let l = c.loop-i in
     let a = c.args in
     let e : l.i ≡ 16 = omega arith in
-    let many = mended_length (names_tag a.entries.now) object_tags a.first a.second (l.invariant.2 ∙ sym tags_16) (l.invariant.3 ∙ sym tags_16) in
-    stored_end _ _ l.i l.invariant.4 (omega (arith, l.invariant.1)) (omega (arith, many, tags_16))
+    let many = mended_length (names_tag a.entries.now) object_tags a.first a.second (l.invariant.1 ∙ sym tags_16) (l.invariant.2 ∙ sym tags_16) in
+    stored_end _ _ l.i l.invariant.3 (omega (arith, l.invariant.0)) (omega (arith, many, tags_16))

@@ -1,11 +1,6 @@
--- `tool_plan::lines::read_steps` is safe and ends: each line ends behind its start. Assumes nothing.
-use mathlib.Core.Path.{◌≡◌}
-use Prim.Native.Nat.{◌-◌}
-use lib.ListN.{length}
+-- `tool_plan::lines::read_steps` meets its contract. The invariant: no more steps than the room holds. Assumes nothing.
+use Rattle.std.proofs.Common.{◌≡◌, ◌≤◌, length}
 use Rattle.tool_plan.proofs.lines.read_steps.Given as goal
 
-abbrev pub invariant-loop-at : goal.invariant-loop-at
-invariant-loop-at l = length l.room ≡ length l.initial.room
-
-abbrev pub decreases-loop-at : goal.decreases-loop-at
-decreases-loop-at l = length l.text - l.at
+abbrev pub invariant-loop-line : goal.invariant-loop-line
+invariant-loop-line l = (l.count ≤ length l.room) × (length l.room ≡ length l.initial.room)

@@ -16,7 +16,7 @@ unfolding places_room
 returns-then-room-ne32 c = rw (ne_eqb _ 32 c.if-room-ne32.true)
 
 pub loop-k-init : goal.loop-k-init
-loop-k-init c = (omega arith, refl, refl, left_start _ _ _)
+loop-k-init c = (refl, refl, left_start _ _ _)
 
 pub loop-k-preserved : goal.loop-k-preserved
 loop-k-preserved c =
@@ -29,7 +29,7 @@ loop-k-preserved c =
     let a : l.k < length t.starts = omega (arith, starts) in
     let b : l.k < length t.lengths = omega (arith, lengths) in
     let one = put_there c.put-place.ensures.value c.put-place.ensures.room_after (omega arith) in
-    (omega arith, omega arith, omega (arith, one.place), left_next l.invariant.3 _ _ (paired_next t.starts t.lengths l.k a b) one)
+    (omega arith, omega (arith, one.place), left_next l.invariant.2 _ _ (paired_next t.starts t.lengths l.k a b) one)
 
 pub returns : goal.returns
 returns c =
@@ -37,5 +37,5 @@ returns c =
     search rules in
     let l = c.loop-k in
     let t = c.args.table in
-    let put = left_end l.invariant.3 (paired_end t.starts t.lengths l.k (omega (arith, starts))) in
+    let put = left_end l.invariant.2 (paired_end t.starts t.lengths l.k (omega (arith, starts))) in
     put.stored ∙ sets_whole _ _ (omega (arith, put.place)) ∙ sym (places_room_lem t _ (omega arith))

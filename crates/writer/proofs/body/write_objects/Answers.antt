@@ -17,7 +17,7 @@ use Rattle.writer.proofs.body.write_objects.Goals as goal
 
 pub loop-i-init : goal.loop-i-init
 unfolding content_of
-loop-i-init c = (omega arith, refl, refl, refl)
+loop-i-init c = (refl, refl, refl)
 
 pub slice_bounds-write_object-end : goal.slice_bounds-write_object-end
 slice_bounds-write_object-end c = omega (arith, c.requires.0)
@@ -28,7 +28,7 @@ write_object-place-requires c =
     let bs = c.args.bytes.now in
     let h : 14 + l.i * 29 + 29 ≤ length bs = omega (arith, c.requires.0) in
     let same = ap (λ (o : Object). o.length) (object_part bs c.requires.0 l.i (omega arith)) in
-    (part_length _ _ 29 h, omega (arith, same, c.requires.1 l.i), omega (arith, l.invariant.1, l.invariant.2, c.requires.2))
+    (part_length _ _ 29 h, omega (arith, same, c.requires.1 l.i), omega (arith, l.invariant.0, l.invariant.1, c.requires.2))
 
 pub loop-i-preserved : goal.loop-i-preserved
 loop-i-preserved c =
@@ -41,14 +41,13 @@ loop-i-preserved c =
     let long = ap length step ∙ length-append piece (from (l.i + 1) os) in
     let place = rw (object_part bs c.requires.0 l.i h) at c.write_object-place.ensures.value in
     let front = rw (object_part bs c.requires.0 l.i h) at c.write_object-place.ensures.room_after in (
-      omega arith,
-      omega (arith, l.invariant.1, c.write_object-place.auto.room),
-      omega (arith, place, long, l.invariant.2),
-      one_on (take l.place l.room) piece (from (l.i + 1) os) (from l.i os) _ front step l.invariant.3,
+      omega (arith, l.invariant.0, c.write_object-place.auto.room),
+      omega (arith, place, long, l.invariant.1),
+      one_on (take l.place l.room) piece (from (l.i + 1) os) (from l.i os) _ front step l.invariant.2,
     )
 
 pub shape_of-room : goal.shape_of-room
-shape_of-room c = c.loop-i.invariant.1
+shape_of-room c = c.loop-i.invariant.0
 
 pub returns : goal.returns
 returns c =
@@ -56,4 +55,4 @@ returns c =
     let os = (lent_record c.args.bytes.now).objects in
     let e : l.i ≡ 16 = omega arith in
     let none : from l.i os ≡ [] = rw e (from_end os) in
-    record { value = omega (arith, ap length none, l.invariant.2); room_after = sym (append-nil (take l.place l.room)) ∙ ap (λ (x : List ℕ). take l.place l.room ++ x) (sym none) ∙ l.invariant.3 }
+    record { value = omega (arith, ap length none, l.invariant.1); room_after = sym (append-nil (take l.place l.room)) ∙ ap (λ (x : List ℕ). take l.place l.room ++ x) (sym none) ∙ l.invariant.2 }

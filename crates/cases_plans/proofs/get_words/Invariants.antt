@@ -1,9 +1,0 @@
--- `get_words` is safe and ends: the words to come grow fewer.
-use Rattle.std.proofs.Common.{◌-◌, ◌≤◌}
-use Rattle.cases_plans.proofs.get_words.Given as goal
-
-abbrev pub invariant-loop-i : goal.invariant-loop-i
-invariant-loop-i g l = l.i ≤ l.count
-
-abbrev pub decreases-loop-i : goal.decreases-loop-i
-decreases-loop-i g l = l.count - l.i

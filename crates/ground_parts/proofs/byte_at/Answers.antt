@@ -1,8 +1,0 @@
--- `ground_parts::byte_at` meets its contract: past the end stands the default. Assumes nothing.
-use mathlib.Core.Path.{sym}
-use lib.ListN.{get_or-eq_default}
-use borrow.Author.Rules.{rules}
-use Rattle.ground_parts.proofs.byte_at.Goals as goal
-
-pub returns-else-i-part : goal.returns-else-i-part
-returns-else-i-part c = sym (get_or-eq_default c.args.part.now 0 c.if-i-part.false)
