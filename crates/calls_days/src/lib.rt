@@ -10,14 +10,17 @@ ghost use Rattle.calls_days.specs.Days.{day_packed};
 use card::Refusal;
 use day::Answer;
 
+#[tactic(auto, unfolding(crate::specs::Days::day_packed))]
 fn packed_day(answer: Answer) -> u64
     ensures { result ≡ day_packed answer }
 {
-    let refusal = answer.refusal;
-    if refusal.number == 41 {
-        return wire::pack_value(Refusal::new(41, 0, 0), refusal.place);
+    match answer {
+        Ok(value) => wire::pack_value(Refusal::none(), value),
+        Err(refusal) if refusal.number == 41 => {
+            wire::pack_value(Refusal::new(41, 0, 0), refusal.place)
+        }
+        Err(refusal) => wire::pack_value(refusal, 0),
     }
-    wire::pack_value(refusal, answer.value)
 }
 
 // How many cards a file has.

@@ -17,6 +17,7 @@ use Rattle.day_index.proofs.Parts.{Sized, sized-none, sized-more, length_flat, l
 use Rattle.day_index.specs.Order.{flat}
 use Rattle.day.specs.Cards.{is_card}
 use Rattle.day.specs.Files.{Cards, no-cards, one-card, file_of, trailer, index_bytes, size_of, count_in, images_in}
+use Rattle.std.specs.Prelude.{Ok, Err}
 use Rattle.day.specs.Calls.{answered, room_after}
 use Rattle.day.proofs.Entries.{length_index_bytes}
 
@@ -61,6 +62,14 @@ module _ (x : Refusal) where
   pub answered_any : (x.number ≡ 0 → ⊥) → (m n : ℕ) → answered x m ≡ answered x n
   unfolding answered
   answered_any h m n = rw (ne_eqb x.number 0 h)
+
+  pub answered_ok : x.number ≡ 0 → (n : ℕ) → Ok n ≡ answered x n
+  unfolding answered
+  answered_ok h n = rw (eq-eqb x.number 0 h)
+
+  pub answered_err : (x.number ≡ 0 → ⊥) → (n : ℕ) → Err x ≡ answered x n
+  unfolding answered
+  answered_err h n = rw (ne_eqb x.number 0 h)
 
   pub room_kept : (x.number ≡ 0 → ⊥) → (new room : List ℕ) → room ≡ room_after x new room
   unfolding room_after

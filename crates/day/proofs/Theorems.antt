@@ -18,7 +18,7 @@ use Rattle.day_index.proofs.Parts.{length_pieces, length_flat, pieces_flat, flat
 use Rattle.day.specs.Cards.{entry, number_of}
 use Rattle.day.specs.Index.{index_from, index_of}
 use Rattle.day.specs.Files.{Cards, DayFile, file_of, trailer, index_bytes, size_of, count_in, images_in, index_in, fits, cards_refusal, file_refusal}
-use Rattle.day.specs.Calls.{answered, room_after, number_formed, has_number, first_with, find_refusal, find_answer, add_refusal, add_answer, add_room, laid_images, build_refusal, build_answer, build_room}
+use Rattle.day.specs.Calls.{value_of, answered, room_after, number_formed, has_number, first_with, find_refusal, find_answer, add_refusal, add_answer, add_room, laid_images, build_refusal, build_answer, build_room}
 use Rattle.day.proofs.Entries.{length_index_bytes, index_sorted}
 use Rattle.day.proofs.Turns.{all_cards}
 use Rattle.day.proofs.Frames.{by_trailer}
@@ -198,7 +198,7 @@ module _ (file number : List ℕ) where
   has_first h =
       (h, same_equal (number_of (get_or (images_in file) (first_with number (images_in file)) [])) number (not-false _ (leading_at (λ x. not (has_number number x)) [] (images_in file) h)))
 
-  pub finds_first : (find_refusal file number).number ≡ 0 → Lowest file number (find_answer file number).value
+  pub finds_first : (find_refusal file number).number ≡ 0 → Lowest file number (value_of (find_answer file number))
   unfolding find_answer answered
   finds_first z = rw (eq-eqb (find_refusal file number).number 0 z) (record { has = has_first there; none_before = no-earlier })
     where

@@ -1,11 +1,10 @@
--- What each call answers: a refusal and 0, or a number; and what it leaves in the room that it is lent.
-use Rattle.std.specs.Prelude.{ℕ, ◌+◌, ◌*◌, ◌/◌, ◌%◌, Bool, cond, not, ◌&&◌, List, [], ◌∷◌, ◌++◌, eqb, leb, ltb, length, take, drop}
+-- What each call answers: a number, or a refusal; and what it leaves in the room that it is lent.
+use Rattle.std.specs.Prelude.{ℕ, ◌+◌, ◌*◌, ◌/◌, ◌%◌, Bool, cond, not, ◌&&◌, List, [], ◌∷◌, ◌++◌, eqb, leb, ltb, length, take, drop, Result, Ok, Err}
 use Rattle.ground.specs.Lists.{leading}
 use Rattle.rules.specs.Values.{is_digit}
 use Rattle.card.specs.declared.Refusal.{Refusal}
 use Rattle.card.specs.Refusals.{refuse, none, gate, or_else}
 use Rattle.ground.specs.Pieces.{pieces}
-use Rattle.day.specs.declared.Answer.{Answer}
 use Rattle.ground.specs.Lists.{same_list}
 use Rattle.day.specs.Cards.{is_card, number_of, entry}
 use Rattle.day.specs.Index.{halved, told_at}
@@ -14,8 +13,16 @@ use Rattle.day.specs.Files.{file_of, most_cards, size_of, count_in, images_in, c
 abbrev pub accepts : Refusal → Bool
 accepts x = eqb x.number 0
 
+abbrev pub Answer : Type 0
+Answer = Result ℕ Refusal
+
 unfoldable pub answered : Refusal → ℕ → Answer
-answered x n = record { refusal = x; value = cond (accepts x) n 0 }
+answered x n = cond (accepts x) (Ok n) (Err x)
+
+-- the number that is answered, and 0 where there is none
+abbrev pub value_of : Answer → ℕ
+value_of (Ok n) = n
+value_of (Err x) = 0
 
 -- a refusal leaves the room unchanged, and what lies behind the new file stays
 unfoldable pub room_after : Refusal → List ℕ → List ℕ → List ℕ

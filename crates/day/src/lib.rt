@@ -5,9 +5,8 @@
 
 use card::Refusal;
 
-// A refusal and 0, or what was asked for.
-#[derive(Clone, Copy)]
-pub struct Answer {
-    pub refusal: Refusal,
-    pub value: usize,
-}
+// The index of a file has at most 200 entries of 14 bytes.
+pub const MOST_INDEX: usize = 2800;
+
+// What was asked for, or why it is refused.
+pub type Answer = Result<usize, Refusal>;

@@ -13,9 +13,6 @@ ghost use Rattle.day.specs.Calls.{add_answer, add_room};
 use card::Refusal;
 use day::Answer;
 
-// The index of a file has at most 200 entries of 14 bytes.
-const MOST: usize = 2800;
-
 // Fills `index` with the index of a file of so many images, and one entry more.
 fn add_entry(index: &mut [u8], file: &[u8], count: usize, entry: [u8; 14])
     requires { (2800 ≤ length index.old) × (count < 200) × (count * 270 ≤ length file.now) }
@@ -43,7 +40,7 @@ fn put_added(room: &mut [u8], file: &[u8], card: &[u8], count: usize, entry: [u8
     requires { (count < 200) × (count * 270 ≤ length file.now) × (length card.now ≡ 256) × (size_of (count + 1) ≤ length room.old) }
     ensures { room.new ≡ sets room.old 0 ((take (count * 256) file.now ++ card.now) ++ (flat (insert entry (pieces 14 count (take (count * 14) (drop (count * 256) file.now)))) ++ trailer (count + 1) (flat (insert entry (pieces 14 count (take (count * 14) (drop (count * 256) file.now))))))) }
 {
-    let mut index = [0u8; MOST];
+    let mut index = [0u8; day::MOST_INDEX];
     add_entry(&mut index, file, count, entry);
     let size = (count + 1) * 14;
     write_added(room, file, card, count, &index[..size]);
@@ -58,13 +55,13 @@ pub fn add(file: &[u8], card: &[u8], room: &mut [u8]) -> Answer
     let more = day_limits::refuse_more(count, room.len());
     let refusal = day_told::or_else(day_check::check(file), more);
     if refusal.number != 0 {
-        return day_told::answer_of(refusal, 0);
+        return Err(refusal);
     }
     let new = day_cards::card_at(card, count as u16);
     if !new.accepted {
-        return day_told::answer_of(Refusal::new(41, count, 0), 0);
+        return Err(Refusal::new(41, count, 0));
     }
     let entry = new.entry;
     put_added(room, file, card, count, entry);
-    day_told::answer_of(Refusal::none(), (count + 1) * 270 + 8)
+    Ok((count + 1) * 270 + 8)
 }

@@ -10,9 +10,6 @@ ghost use Rattle.day.specs.Calls.{laid_images, build_refusal, build_answer, buil
 use card::Refusal;
 use day::Answer;
 
-// The index of a file has at most 200 entries of 14 bytes.
-const MOST: usize = 2800;
-
 // Checks images for a room of this size, and fills `index` with their index.
 fn check_build(images: &[u8], size: usize, index: &mut [u8]) -> Refusal
     requires { 2800 ≤ length index.old }
@@ -32,14 +29,14 @@ pub fn build(images: &[u8], room: &mut [u8]) -> Answer
     ensures value { result ≡ build_answer images.now room.old }
     ensures room_after { room.new ≡ build_room images.now room.old }
 {
-    let mut index = [0u8; MOST];
+    let mut index = [0u8; day::MOST_INDEX];
     let refusal = check_build(images, room.len(), &mut index);
     if refusal.number != 0 {
-        return day_told::answer_of(refusal, 0);
+        return Err(refusal);
     }
     let count = images.len() / 256;
     let size = count * 14;
     ground_room::put(room, 0, images);
     day_trailer::close(room, count, &index[..size]);
-    day_told::answer_of(refusal, count * 270 + 8)
+    Ok(count * 270 + 8)
 }

@@ -8,9 +8,6 @@ ghost use Rattle.day.specs.Files.{file_refusal};
 
 use card::Refusal;
 
-// The index of a file has at most 200 entries of 14 bytes.
-const MOST: usize = 2800;
-
 // 40, 41, 42.
 pub fn check(file: &[u8]) -> Refusal
     ensures { result ≡ file_refusal file.now }
@@ -20,7 +17,7 @@ pub fn check(file: &[u8]) -> Refusal
     }
     let count = day_told::count_in(file);
     let start = count * 256;
-    let mut index = [0u8; MOST];
+    let mut index = [0u8; day::MOST_INDEX];
     let refusal = day_gather::gather(&file[..start], &mut index);
     if refusal.number != 0 {
         return refusal;

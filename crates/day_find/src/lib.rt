@@ -14,7 +14,7 @@ pub fn find(file: &[u8], number: &[u8]) -> Answer
 {
     let refusal = day_check::check(file);
     if refusal.number != 0 {
-        return day_told::answer_of(refusal, 0);
+        return Err(refusal);
     }
     let count = day_told::count_in(file);
     let start = count * 256;

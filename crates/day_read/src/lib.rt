@@ -29,9 +29,9 @@ pub fn image_start(file: &[u8], position: usize) -> Answer
 {
     let refusal = check_position(file, position);
     if refusal.number != 0 {
-        return day_told::answer_of(refusal, 0);
+        return Err(refusal);
     }
-    day_told::answer_of(refusal, position * 256)
+    Ok(position * 256)
 }
 
 // The image at a position, as a part of the file; an empty part where it is refused.

@@ -1,9 +1,9 @@
-// The count that the trailer of a day file tells, the first of two refusals, and an answer of a refusal and a value.
+// The count that the trailer of a day file tells, the first of two refusals, and an answer of a refusal or a value.
 // Any bytes, refusals and values may be lent. Whether the bytes are a day file at all is the caller's to check.
 // The count is read of any bytes: of fewer than four it is made of the first byte, and of none it is 0.
 #![tactic(auto)]
 
-ghost use Rattle.std.specs.Prelude.{◌≡◌, ◌-◌, ◌<◌};
+ghost use Rattle.std.specs.Prelude.{◌≡◌};
 ghost use Rattle.card.specs.Refusals.{or_else};
 ghost use Rattle.day.specs.Files.{count_in};
 ghost use Rattle.day.specs.Calls.{answered};
@@ -11,29 +11,13 @@ ghost use Rattle.day.specs.Calls.{answered};
 use card::Refusal;
 use day::Answer;
 
-fn wide(byte: u8) -> usize
-    ensures { (result ≡ byte) × (result < 256) }
-{
-    byte as usize
-}
-
-// So many before the end, and the start where there are not so many.
-fn back_from(end: usize, count: usize) -> usize
-    ensures { result ≡ end - count }
-{
-    if end < count {
-        return 0;
-    }
-    end - count
-}
-
 // The count that the trailer of a file tells.
 pub fn count_in(file: &[u8]) -> usize
     ensures { result ≡ count_in file.now }
 {
-    let high = ground_parts::byte_at(file, back_from(file.len(), 4));
-    let low = ground_parts::byte_at(file, back_from(file.len(), 3));
-    wide(high) * 256 + wide(low)
+    let high = ground_parts::byte_at(file, file.len().saturating_sub(4));
+    let low = ground_parts::byte_at(file, file.len().saturating_sub(3));
+    usize::from(high) * 256 + usize::from(low)
 }
 
 // The first of two refusals, and the second where the first has no number.
@@ -46,12 +30,12 @@ pub fn or_else(first: Refusal, second: Refusal) -> Refusal
     second
 }
 
-// A refusal and 0, or a value.
+// A refusal, or a value where nothing is refused.
 pub fn answer_of(refusal: Refusal, value: usize) -> Answer
     ensures { result ≡ answered refusal value }
 {
-    if refusal.number == 0 {
-        return Answer { refusal, value };
+    if refusal.number != 0 {
+        return Err(refusal);
     }
-    Answer { refusal, value: 0 }
+    Ok(value)
 }

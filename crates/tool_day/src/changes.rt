@@ -53,12 +53,10 @@ fn build_file<R: Outside>(rt: &R, images: &[u8]) -> u8
     ensures { result < 4 }
 {
     let mut room = [0u8; 65536];
-    let answer = day_build::build(images, &mut room);
-    let refusal = answer.refusal;
-    if refusal.number != 0 {
-        return refusals::tell(rt, refusal, images);
+    match day_build::build(images, &mut room) {
+        Ok(size) => replace(rt, &room, size),
+        Err(refusal) => refusals::tell(rt, refusal, images),
     }
-    replace(rt, &room, answer.value)
 }
 
 // Builds a file from the cards that words from 4 on name.
@@ -85,9 +83,7 @@ pub(crate) fn build<R: Outside>(rt: &R, words: usize) -> u8
 fn refuse_add<R: Outside>(rt: &R, refusal: Refusal, file: &[u8], card: &[u8]) -> u8
     ensures { result < 4 }
 {
-    let checked = day_read::count(file);
-    let own = checked.refusal;
-    if (refusal.number == 41) & (own.number == 0) {
+    if (refusal.number == 41) & day_read::count(file).is_ok() {
         refusals::say_image(rt, refusal.place, card);
         return refusals::write_refusal(rt, 41, refusal.place);
     }
@@ -99,12 +95,10 @@ fn add_card<R: Outside>(rt: &R, file: &[u8], card: &[u8]) -> u8
     ensures { result < 4 }
 {
     let mut room = [0u8; 65536];
-    let answer = day_add::add(file, card, &mut room);
-    let refusal = answer.refusal;
-    if refusal.number != 0 {
-        return refuse_add(rt, refusal, file, card);
+    match day_add::add(file, card, &mut room) {
+        Ok(size) => replace(rt, &room, size),
+        Err(refusal) => refuse_add(rt, refusal, file, card),
     }
-    replace(rt, &room, answer.value)
 }
 
 // Adds the card in the file that word 4 names to the file that word 3 names.

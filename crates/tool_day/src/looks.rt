@@ -50,12 +50,10 @@ fn show_cards<R: Outside>(rt: &R, count: usize, file: &[u8]) -> u8
 fn list_cards<R: Outside>(rt: &R, file: &[u8]) -> u8
     ensures { result < 4 }
 {
-    let answer = day_read::count(file);
-    let refusal = answer.refusal;
-    if refusal.number != 0 {
-        return refusals::tell(rt, refusal, file);
+    match day_read::count(file) {
+        Ok(count) => show_cards(rt, count, file),
+        Err(refusal) => refusals::tell(rt, refusal, file),
     }
-    show_cards(rt, answer.value, file)
 }
 
 // Lists the cards of the file that word 3 names.
@@ -73,13 +71,12 @@ pub(crate) fn list<R: Outside>(rt: &R) -> u8
 fn find_number<R: Outside>(rt: &R, file: &[u8], number: &[u8]) -> u8
     ensures { result < 4 }
 {
-    let answer = day_find::find(file, number);
-    let refusal = answer.refusal;
-    if refusal.number != 0 {
-        return refusals::tell(rt, refusal, file);
-    }
+    let position = match day_find::find(file, number) {
+        Ok(position) => position,
+        Err(refusal) => return refusals::tell(rt, refusal, file),
+    };
     files::write_all(rt, b"FOUND ");
-    files::print_decimal(rt, answer.value as u64);
+    files::print_decimal(rt, position as u64);
     words::written(rt, files::write_all(rt, b"\n"))
 }
 
@@ -111,12 +108,10 @@ fn get_image<R: Outside>(rt: &R, file: &[u8], position: usize) -> u8
 fn get_position<R: Outside>(rt: &R, file: &[u8], position: usize) -> u8
     ensures { result < 4 }
 {
-    let answer = day_read::image_start(file, position);
-    let refusal = answer.refusal;
-    if refusal.number != 0 {
-        return refusals::tell(rt, refusal, file);
+    match day_read::image_start(file, position) {
+        Ok(_) => get_image(rt, file, position),
+        Err(refusal) => refusals::tell(rt, refusal, file),
     }
-    get_image(rt, file, position)
 }
 
 // Takes the card at the position that word 4 is out of the file that word 3 names.

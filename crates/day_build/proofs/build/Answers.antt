@@ -10,6 +10,7 @@ use Rattle.ground.proofs.Stores.{sets_then}
 use Rattle.ground.proofs.Puts.{put_stored}
 use Rattle.day.specs.Files.{trailer}
 use Rattle.day.proofs.Frames.{closed_right}
+use Rattle.day.proofs.Sizes.{answered_ok, answered_err}
 use Rattle.day.proofs.Builds.{Built, built, refused_build, written_build}
 use Rattle.day_build.proofs.build.Goals as goal
 
@@ -17,7 +18,7 @@ pub returns-then-refusal-ne0 : goal.returns-then-refusal-ne0
 returns-then-refusal-ne0 c =
     let a = c.args in
     let w = refused_build a.images.now a.room.now c.check_build-refusal.result c.check_build-refusal.ensures.value c.if-refusal-ne0.true in
-    record { value = c.answer_of.ensures ∙ w.0; room_after = w.1 }
+    record { value = answered_err _ c.if-refusal-ne0.true 0 ∙ w.0; room_after = w.1 }
 
 pub slice_bounds-index-end : goal.slice_bounds-index-end
 slice_bounds-index-end c =
@@ -46,4 +47,4 @@ returns c =
     let d = done in
     let put = put_stored a.room.now 0 s (omega (arith, d.whole, d.room)) c.put.ensures.room_after in
     let shut = closed_right (length s / 256) i c.put.new.room d.few (index-size) (omega (arith, d.room, c.put.auto.room)) in
-    record { value = c.answer_of-2.ensures ∙ w.0; room_after = c.close.ensures ∙ shut ∙ sets_then a.room.now s 0 (i ++ trailer (length s / 256) i) put (omega (arith, d.whole)) ∙ w.1 }
+    record { value = answered_ok _ c.if-refusal-ne0.false _ ∙ w.0; room_after = c.close.ensures ∙ shut ∙ sets_then a.room.now s 0 (i ++ trailer (length s / 256) i) put (omega (arith, d.whole)) ∙ w.1 }

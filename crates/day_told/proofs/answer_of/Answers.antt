@@ -3,10 +3,10 @@ use borrow.Author.Tests.{eq-eqb, ne_eqb}
 use Rattle.day.specs.Calls.{answered}
 use Rattle.day_told.proofs.answer_of.Goals as goal
 
-pub returns-then-refusal-eq0 : goal.returns-then-refusal-eq0
+pub returns-then-refusal-ne0 : goal.returns-then-refusal-ne0
 unfolding answered
-returns-then-refusal-eq0 c = rw (eq-eqb _ _ c.if-refusal-eq0.true)
+returns-then-refusal-ne0 c = rw (ne_eqb _ _ c.if-refusal-ne0.true)
 
 pub returns : goal.returns
 unfolding answered
-returns c = rw (ne_eqb _ _ c.if-refusal-eq0.false)
+returns c = rw (eq-eqb _ _ c.if-refusal-ne0.false)

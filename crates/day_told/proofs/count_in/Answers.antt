@@ -8,5 +8,5 @@ pub returns : goal.returns
 returns c =
     let s = c.args.file.now in
     ap₂ (λ (a b : ℕ). a * 256 + b)
-    (c.wide.ensures.0 ∙ c.byte_at-high.ensures ∙ ap (λ (i : ℕ). get_or s i 0) c.back_from.ensures)
-    (c.wide-2.ensures.0 ∙ c.byte_at-low.ensures ∙ ap (λ (i : ℕ). get_or s i 0) c.back_from-2.ensures)
+    (c.from.ensures ∙ c.byte_at-high.ensures ∙ ap (λ (i : ℕ). get_or s i 0) c.saturating_sub.ensures)
+    (c.from-2.ensures ∙ c.byte_at-low.ensures ∙ ap (λ (i : ℕ). get_or s i 0) c.saturating_sub-2.ensures)
