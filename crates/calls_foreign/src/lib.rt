@@ -8,24 +8,21 @@ ghost use Rattle.lengths.specs.Lengths.{length_read, length_told};
 ghost use Rattle.tree.specs.Answers.{tree_answer, tree_room};
 ghost use Rattle.calls_foreign.specs.Foreign.{packed_length, packed_tree, packed_back, PackedBack};
 
-use lengths::{Field, FieldError};
+use lengths::ToldLength;
 use tree::Refusal;
 use tree_back::BackError;
 
-fn pack_length(answer: Result<Field, FieldError>) -> u64
-    ensures { result ≡ packed_length (length_told answer) }
+fn pack_length(field: ToldLength) -> u64
+    ensures { result ≡ packed_length field }
 {
-    match answer {
-        Ok(field) => (field.length as u64) * (1 << 40) + (field.used as u64) * (1 << 56),
-        Err(e) => e.number() as u64,
-    }
+    field.number as u64 + (field.length as u64) * (1 << 40) + (field.used as u64) * (1 << 56)
 }
 
 // Reads the length field at the head of some bytes: the length in bits 40 to 55, the bytes used in bits 56 to 63.
 pub fn length(bytes: &[u8]) -> u64
     ensures { result ≡ packed_length (length_told (length_read bytes.now)) }
 {
-    pack_length(lengths_read::read_length(bytes))
+    pack_length(lengths_read::told(lengths_read::read_length(bytes)))
 }
 
 fn pack_tree(answer: Result<u16, Refusal>) -> u64

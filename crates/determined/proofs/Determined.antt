@@ -326,7 +326,7 @@ pub lengths_number_once : (κs : _) (a : _) (z y : _) (e f : _) → lengths-numb
 lengths_number_once κs a z y e f p q = p ∙ sym q
 
 pub lengths_read_length_once : (κs : _) (a : _) (z y : _) (e f : _) → lengths-read-length.Post κs a z e → lengths-read-length.Post κs a y f → z ≡ y
-lengths_read_length_once κs a z y e f p q = p ∙ sym q
+lengths_read_length_once κs a z y e f p q = p.0 ∙ sym q.0
 
 pub put_length_once : (κs : _) (a : _) (z y : _) (e f : _) → put-length.Post κs a z e → put-length.Post κs a y f → z ≡ y
 put_length_once κs a z y e f p q = p.0 ∙ sym q.0

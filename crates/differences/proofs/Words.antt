@@ -27,12 +27,16 @@ pub addresses_14 : length addresses ≡ 14
 unfolding addresses
 addresses_14 = refl
 
-addresses_octets : leading (λ (a : ℕ). ltb a 256) addresses ≡ 14
+-- each of some bytes' addresses is below 256 where a test of all says so
+pub octet_in : (xs : List ℕ) (i : ℕ) → leading (λ (a : ℕ). ltb a 256) xs ≡ length xs → i < length xs → get_or xs i 0 < 256
+octet_in xs i w h = ltb-true (get_or xs i 0) 256 (leading_before (λ (a : ℕ). ltb a 256) 0 xs i (rw w h))
+
+addresses_octets : leading (λ (a : ℕ). ltb a 256) addresses ≡ length addresses
 unfolding addresses leading
 addresses_octets = refl
 
 pub address_low : (i : ℕ) → i < 14 → get_or addresses i 0 < 256
-address_low i h = ltb-true (get_or addresses i 0) 256 (leading_before (λ (a : ℕ). ltb a 256) 0 addresses i (rw addresses_octets h))
+address_low i h = octet_in addresses i addresses_octets (rw addresses_14 h)
 
 -- ---- the objects
 abbrev pub objects_from : ℕ → List (List ℕ) → List (List ℕ) → List ℕ

@@ -5,14 +5,14 @@ use native.Mathlib.Omega.{arith}
 use borrow.Author.Count.{below_more}
 use borrow.Author.Tests.{eqb-true, eqb-false, eq-eqb, ne_eqb}
 use mathlib.Core.Path.{◌≡◌, refl, sym, ap, ◌∙◌}
-use mathlib.Core.Bool.{Bool, true, false, cond}
+use mathlib.Core.Bool.{Bool, true, false, cond, ◌&&◌}
 use mathlib.Core.List.{List, [], ◌∷◌, ◌++◌}
 use lib.Bits.{bit_or, bit_xor, or_add_and, xor_add_and, and_le_l, and_le_r, xor_self}
 use lib.Dec.{eqb}
 use lib.ListN.{length, get_or, take, drop, replicate, length-replicate, get_or-replicate, length-drop}
 use lib.Seq.{drop-drop, take_all}
 use Rattle.std.specs.List.{prefix_len}
-use Rattle.ground.specs.Lists.{agree}
+use Rattle.ground.specs.Lists.{agree, same_list}
 use Rattle.ground.proofs.Lists.{agree_same, eqb_turned, one_more}
 
 -- what lies behind the length of the first list is not looked at
@@ -140,3 +140,34 @@ differs_run part b d w = go (eqb d 0) refl
         let l = length-replicate (length part) b in
         let is : replicate (length part) b ≡ part = agree_same (replicate (length part) b) part l (same ∙ sym l) in
         ap (λ (x : List ℕ). get_or x k 0) (sym is) ∙ get_or-replicate (length part) k b 0 h))))
+
+-- .. and pair by pair
+pub differs_pair : (d x y : ℕ) → eqb (bit_or d (bit_xor x y)) 0 ≡ (eqb d 0 && eqb x y)
+differs_pair d x y = go (eqb d 0) refl (eqb x y) refl (eqb (bit_or d (bit_xor x y)) 0) refl
+  where
+    go : (p : Bool) → eqb d 0 ≡ p → (q : Bool) → eqb x y ≡ q → (r : Bool) → eqb (bit_or d (bit_xor x y)) 0 ≡ r → r ≡ (p && q)
+    go true e true f true g = refl
+    go true e true f false g = absurd (eqb-false _ 0 g (rw (eqb-true d 0 e, eqb-true x y f, xor_self y)))
+    go true e false f true g = absurd (eqb-false x y f (xor_none x y (or_none d (bit_xor x y) (eqb-true _ 0 g)).1))
+    go true e false f false g = refl
+    go false e q f true g = absurd (eqb-false d 0 e (or_none d (bit_xor x y) (eqb-true _ 0 g)).0)
+    go false e q f false g = refl
+
+and_then : (p q r : Bool) → ((p && q) && r) ≡ (p && (q && r))
+and_then true q r = refl
+and_then false q r = refl
+
+and_all : (p : Bool) → p ≡ (p && true)
+and_all true = refl
+and_all false = refl
+
+-- what is told so far, with what is left: a pair more, and nothing more
+pub same_next : (d x y : ℕ) (xs ys : List ℕ) → (eqb (bit_or d (bit_xor x y)) 0 && same_list xs ys) ≡ (eqb d 0 && same_list (x ∷ xs) (y ∷ ys))
+unfolding same_list
+same_next d x y xs ys = rw (differs_pair d x y) (and_then (eqb d 0) (eqb x y) (same_list xs ys))
+
+pub same_over : (d : ℕ) (xs ys : List ℕ) → length xs ≡ 0 → length xs ≡ length ys → eqb d 0 ≡ (eqb d 0 && same_list xs ys)
+unfolding same_list
+same_over d [] [] h e = and_all (eqb d 0)
+same_over d [] (y ∷ ys) h e = absurd (omega arith)
+same_over d (x ∷ xs) ys h e = absurd (omega arith)

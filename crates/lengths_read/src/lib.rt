@@ -59,7 +59,8 @@ fn read_behind82(rest: &[u8]) -> Result<Field, FieldError>
 // The length field at the head of some bytes.
 #[tactic(auto, unfolding(lengths::specs::Lengths::length_read))]
 pub fn read_length(bytes: &[u8]) -> Result<Field, FieldError>
-    ensures { result ≡ length_read bytes.now }
+    ensures read { result ≡ length_read bytes.now }
+    ensures told { length_told result ≡ length_told (length_read bytes.now) }
 {
     let (first, rest) = bytes.split_first().ok_or(FieldError::Cut)?;
     if *first <= 127 {

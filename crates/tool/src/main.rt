@@ -12,7 +12,8 @@ use files::Outside;
 use std::fs::OpenOptions;
 use std::io::Write;
 
-// The commands.
+// The commands. Apart from `main`, whose frame stays small.
+#[inline(never)]
 fn run<R: Outside>(rt: &R, name: &[u8]) -> u8
     ensures { result < 4 }
 {

@@ -81,20 +81,19 @@ fn put_letter<R: Outside>(rt: &R, value: &[u8], place: usize) {
 pub(crate) fn say_fault<R: Outside>(rt: &R, text: &[u8], fault: Fault) {
     put_line(rt, Some(fault.line));
     match fault.wrong {
-        Wrong::Name => put(rt, b"no object has this name\n"),
-        Wrong::Again => put(rt, b"an earlier line has this already\n"),
-        Wrong::Letter => {
-            put_letter(rt, text_entries::value(text, fault.key), fault.place);
-            put(rt, b"is no letter of DIN 66003\n");
-        }
-        Wrong::Digits => {
-            put_name(rt, fault.key);
-            put(
-                rt,
-                b" is due in hex digits, two for a byte: 24 for the free bytes, and else 2\n",
-            );
-        }
-        Wrong::Checksum => put(rt, b"the checksum is computed, and no line sets it\n"),
+        Wrong::Name => put(rt, b"no object has this name"),
+        Wrong::Again => put(rt, b"an earlier line has this already"),
+        Wrong::Letter => put_letter(rt, text_entries::value(text, fault.key), fault.place),
+        Wrong::Digits => put_name(rt, fault.key),
+        Wrong::Checksum => put(rt, b"the checksum is computed, and no line sets it"),
+    }
+    match fault.wrong {
+        Wrong::Letter => put(rt, b"is no letter of DIN 66003\n"),
+        Wrong::Digits => put(
+            rt,
+            b" is due in hex digits, two for a byte: 24 for the free bytes, and else 2\n",
+        ),
+        _ => put(rt, b"\n"),
     }
 }
 

@@ -23,27 +23,27 @@ short f bs w e =
 
 pub returns-in_default : goal.returns-in_default
 returns-in_default c =
-    ap field_told (c.form_unread.ensures ∙ form (Err c.in_default.field-0) c.args.bytes.now (sym c.in_default.is ∙ c.read_length.ensures))
+    ap field_told (c.form_unread.ensures ∙ form (Err c.in_default.field-0) c.args.bytes.now (sym c.in_default.is ∙ c.read_length.ensures.read))
 
 pub overflow_cast-result : goal.overflow_cast-result
-overflow_cast-result c = omega (arith, short c.in-Ok.field c.args.bytes.now (λ i. (c.type_inv.bytes i).fits) c.in-Ok.ensures (omega arith))
+overflow_cast-result c = omega (arith, short c.in-Ok.field c.args.bytes.now (λ i. (c.type_inv.bytes i).fits) c.in-Ok.ensures.read (omega arith))
 
 pub returns-then-field-eq1 : goal.returns-then-field-eq1
 returns-then-field-eq1 c =
     let s = c.args.bytes.now in
-    ap field_told (sym (taken_one (length_told (Ok c.in-Ok.field)) s c.if-field-eq1.true) ∙ form (Ok c.in-Ok.field) s c.in-Ok.ensures)
+    ap field_told (sym (taken_one (length_told (Ok c.in-Ok.field)) s c.if-field-eq1.true) ∙ form (Ok c.in-Ok.field) s c.in-Ok.ensures.read)
 
 pub overflow_cast-result-then-field-eq2 : goal.overflow_cast-result-then-field-eq2
 overflow_cast-result-then-field-eq2 c =
-    omega (arith, short c.in-Ok.field c.args.bytes.now (λ i. (c.type_inv.bytes i).fits) c.in-Ok.ensures (omega arith))
+    omega (arith, short c.in-Ok.field c.args.bytes.now (λ i. (c.type_inv.bytes i).fits) c.in-Ok.ensures.read (omega arith))
 
 pub returns-then-field-eq2 : goal.returns-then-field-eq2
 returns-then-field-eq2 c =
     let s = c.args.bytes.now in
-    ap field_told (sym (taken_two (length_told (Ok c.in-Ok.field)) s c.if-field-eq2.true) ∙ form (Ok c.in-Ok.field) s c.in-Ok.ensures)
+    ap field_told (sym (taken_two (length_told (Ok c.in-Ok.field)) s c.if-field-eq2.true) ∙ form (Ok c.in-Ok.field) s c.in-Ok.ensures.read)
 
 pub returns : goal.returns
 returns c =
     let s = c.args.bytes.now in
     let t = length_told (Ok c.in-Ok.field) in
-    ap field_told (c.form_unread-2.ensures ∙ (sym (taken_else t s c.if-field-eq1.false c.if-field-eq2.false) ∙ form (Ok c.in-Ok.field) s c.in-Ok.ensures))
+    ap field_told (c.form_unread-2.ensures ∙ (sym (taken_else t s c.if-field-eq1.false c.if-field-eq2.false) ∙ form (Ok c.in-Ok.field) s c.in-Ok.ensures.read))

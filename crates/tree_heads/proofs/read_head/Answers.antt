@@ -33,7 +33,7 @@ pub returns-in_default : goal.returns-in_default
 returns-in_default c =
     let a = c.args in
     let x = c.in_default.field-0 in
-    let field = behind (Err x) a.bytes.now (sym c.in_default.is ∙ c.read_length.ensures) in
+    let field = behind (Err x) a.bytes.now (sym c.in_default.is ∙ c.read_length.ensures.read) in
     let good : bad_tag (get_or a.bytes.now 0 0) ≡ false = sym c.is_bad.ensures ∙ c.if-is_bad.false in
     let flat : 7 - a.left ≤ 6 = omega (arith, c.if-left-eq0.false) in
     rw c.new-in_default.ensures (sym (head_field a.bytes.now a.at (7 - a.left) good flat (rw field (number_some x))))
@@ -41,13 +41,13 @@ returns-in_default c =
 pub overflow_sub-bytes : goal.overflow_sub-bytes
 overflow_sub-bytes c =
     let s = c.args.bytes.now in
-    let field = behind (Ok c.in-Ok.field) s c.in-Ok.ensures in
+    let field = behind (Ok c.in-Ok.field) s c.in-Ok.ensures.read in
     rw field at (field_behind_lem s (rw field refl) (omega arith))
 
 pub returns-then-bytes-start : goal.returns-then-bytes-start
 returns-then-bytes-start c =
     let a = c.args in
-    let field = behind (Ok c.in-Ok.field) a.bytes.now c.in-Ok.ensures in
+    let field = behind (Ok c.in-Ok.field) a.bytes.now c.in-Ok.ensures.read in
     let good : bad_tag (get_or a.bytes.now 0 0) ≡ false = sym c.is_bad.ensures ∙ c.if-is_bad.false in
     let flat : 7 - a.left ≤ 6 = omega (arith, c.if-left-eq0.false) in
     rw c.new-then-bytes-start.ensures (sym (head_long a.bytes.now a.at (7 - a.left) good flat (rw field refl) (rw field c.if-bytes-start.true)))
@@ -55,7 +55,7 @@ returns-then-bytes-start c =
 pub returns : goal.returns
 returns c =
     let a = c.args in
-    let field = behind (Ok c.in-Ok.field) a.bytes.now c.in-Ok.ensures in
+    let field = behind (Ok c.in-Ok.field) a.bytes.now c.in-Ok.ensures.read in
     let good : bad_tag (get_or a.bytes.now 0 0) ≡ false = sym c.is_bad.ensures ∙ c.if-is_bad.false in
     let flat : 7 - a.left ≤ 6 = omega (arith, c.if-left-eq0.false) in
     rw field at (sym (head_object a.bytes.now a.at (7 - a.left) good flat (rw field refl) (rw field c.if-bytes-start.false)))
